@@ -6,6 +6,7 @@ ghost use Rattle.std.specs.Prelude.{◌≡◌, true, [], ◌∷◌, IfOk};
 ghost use Rattle.std.specs.List.{list_all};
 ghost use Rattle.goto_prog.specs.Fitting.{code_fits};
 ghost use Rattle.goto_prog.specs.UnrolledCode.{is_flat, is_flat_code};
+ghost use Rattle.goto_prog.specs.Static.{is_static_code};
 ghost use Rattle.goto_prog.specs.declared.code.Instruction.{Instruction as GotoInstruction};
 
 use actions::Store;
@@ -20,7 +21,8 @@ use words::{Class, Word};
 
 // `int x = <input>, y; if (x) y = 5; else y = 7; assert(y < 7);`
 fn choice(alloc: Global) -> Result<Code, AllocError>
-    ensures { IfOk result (λ c. is_flat_code c ≡ true) }
+    ensures flat { IfOk result (λ c. is_flat_code c ≡ true) }
+    ensures plain { IfOk result (λ c. is_static_code c.instructions ≡ true) }
 {
     let at = |line: u32, operation: Operation| Instruction {
         line,
@@ -79,7 +81,8 @@ fn choice(alloc: Global) -> Result<Code, AllocError>
 // Registers that are set on one side only, and read behind the join: `r1` is 5 where the input isn't 0, and
 // `r2` is 7 where it is; `assert(r1 < r2);`
 fn one_sided(alloc: Global) -> Result<Code, AllocError>
-    ensures { IfOk result (λ c. is_flat_code c ≡ true) }
+    ensures flat { IfOk result (λ c. is_flat_code c ≡ true) }
+    ensures plain { IfOk result (λ c. is_static_code c.instructions ≡ true) }
 {
     let at = |line: u32, operation: Operation| Instruction {
         line,
@@ -124,7 +127,8 @@ fn one_sided(alloc: Global) -> Result<Code, AllocError>
 // A block of three bytes stands in front, which is written and cleared; then byte 1 is copied to its last:
 // `assert(!y[1]);` and, of both bytes, `assert(z == 0x0500);`.
 fn pieces(alloc: Global) -> Result<Code, AllocError>
-    ensures { IfOk result (λ c. is_flat_code c ≡ true) }
+    ensures flat { IfOk result (λ c. is_flat_code c ≡ true) }
+    ensures plain { IfOk result (λ c. is_static_code c.instructions ≡ true) }
 {
     let long = IntegerType::UnsignedLong;
     let short = IntegerType::UnsignedShort;
@@ -265,8 +269,10 @@ fn pieces(alloc: Global) -> Result<Code, AllocError>
 fn drawn_first(rest: Vec<Instruction>) -> Result<Vec<Instruction>, AllocError>
     requires fits { code_fits (IntegerType.UnsignedLong ∷ IntegerType.Int ∷ IntegerType.Int ∷ IntegerType.Int ∷ []) (4096 ∷ []) rest.items ≡ true }
     requires flat { list_all (λ (i : GotoInstruction). is_flat i.operation) rest.items ≡ true }
+    requires plain { is_static_code rest.items ≡ true }
     ensures fits { IfOk result (λ r. code_fits (IntegerType.UnsignedLong ∷ IntegerType.Int ∷ IntegerType.Int ∷ IntegerType.Int ∷ []) (4096 ∷ []) r.items ≡ true) }
     ensures flat { IfOk result (λ r. list_all (λ (i : GotoInstruction). is_flat i.operation) r.items ≡ true) }
+    ensures plain { IfOk result (λ r. is_static_code r.items ≡ true) }
 {
     let mut code = rest;
     for word in 0..512 {
@@ -300,7 +306,8 @@ fn drawn_first(rest: Vec<Instruction>) -> Result<Vec<Instruction>, AllocError>
 // A drawn structure of 4,096 bytes with members of type int at 100 and 4,092, and one that stands across two
 // words: `if (x.a) x.b = 7; if (x.b) x.c = x.a; assert(x.c);`. Its first 1,024 bytes are copied between.
 fn large(alloc: Global) -> Result<Code, AllocError>
-    ensures { IfOk result (λ c. is_flat_code c ≡ true) }
+    ensures flat { IfOk result (λ c. is_flat_code c ≡ true) }
+    ensures plain { IfOk result (λ c. is_static_code c.instructions ≡ true) }
 {
     let int = IntegerType::Int;
     let at = |line: u32, operation: Operation| Instruction {
@@ -455,7 +462,8 @@ fn tell(
 
 // The first row that the events of the code's one thread tell otherwise.
 fn wrong_row(alloc: Global, code: Code, rows: &[Told<'_>]) -> Result<Option<usize>, AllocError>
-    requires { is_flat_code code ≡ true }
+    requires flat { is_flat_code code ≡ true }
+    requires plain { is_static_code code.instructions ≡ true }
 {
     let unrolled = Unrolled::new(vec![in alloc; code]?, 0, Store::new(alloc));
     let mut dag = Dag::new(alloc);
@@ -567,7 +575,8 @@ fn nodes_of_a_large_block(rt: HostRuntime) -> Result<(), Fail> {
 
 // `char a[11]` is a static object: `if (a[10] == 3) a[0] = a[10] else;`, by a block of 11 bytes
 fn accesses(alloc: Global) -> Result<Code, AllocError>
-    ensures { IfOk result (λ c. is_flat_code c ≡ true) }
+    ensures flat { IfOk result (λ c. is_flat_code c ≡ true) }
+    ensures plain { IfOk result (λ c. is_static_code c.instructions ≡ true) }
 {
     let at = |line: u32, operation: Operation| Instruction {
         line,

@@ -15,7 +15,8 @@ use Rattle.goto_prog.specs.declared.code.Condition.TheVariants as checks
 use Rattle.goto_prog.specs.declared.code.Operation.{Operation}
 use Rattle.goto_prog.specs.declared.code.Operation.TheVariants as operations
 use Rattle.goto_prog.specs.declared.code.Instruction.{Instruction}
-use Rattle.goto_prog.specs.Fitting.{is_there, is_register, is_wide, check_fits, operation_fits}
+use Rattle.goto_prog.specs.Fitting.{is_there, is_register, is_pointer, is_block, is_wide, check_fits, operation_fits}
+use Rattle.core_tree.specs.Typed.{is_within}
 use Rattle.goto_prog.specs.Nodes.{Nodes, done, plain, repeats, node_count, nodes_fit, Routine, routine_fits, routines_fit}
 use Rattle.goto_prog.proofs.Registers.{both, same_widths}
 use Rattle.goto_checks.specs.Inserted.{if_signed, arithmetic_checks, sign_checks, checks_of, with_checks, with_count, count_of, widths, extent, jumping, inserted, with_inserted}
@@ -112,6 +113,22 @@ module _ (rs : List IntegerType) where
     checks_fit n (operations.Use a) h = (h, tt)
     checks_fit n (operations.Call f first count into r) h = tt
     checks_fit n (operations.Return v) h = tt
+    checks_fit n (operations.Move r p i t z size class) h = ((both (is_pointer rs r) (is_pointer rs p && is_register rs i t && is_pointer rs size) h).1, tt)
+    checks_fit n (operations.Offset r p count) h = tt
+    checks_fit n (operations.Same p q) h = (h, tt)
+    checks_fit n (operations.Distance r p q z) h = tt
+    checks_fit n (operations.Relate r op p q) h = tt
+    checks_fit n (operations.Take b to from p count whole) h = ((both (is_pointer rs p) (is_within bs b to count) (both (is_pointer rs p && is_within bs b to count) (is_block bs from whole) h).0).0, tt)
+    checks_fit n (operations.Put b p from to count whole) h = ((both (is_pointer rs p) (is_within bs from to count) (both (is_pointer rs p && is_within bs from to count) (is_block bs b whole) h).0).0, tt)
+    checks_fit n (operations.Read b to p count) h = tt
+    checks_fit n (operations.Write p b from count first) h = tt
+    checks_fit n (operations.Look r p subscript) h = tt
+    checks_fit n (operations.Fill b r) h = tt
+    checks_fit n (operations.Alloc r b size readonly heap) h = tt
+    checks_fit n (operations.Die p) h = tt
+    checks_fit n (operations.Free p) h = tt
+    checks_fit n (operations.MayFail r) h = tt
+    checks_fit n (operations.Limit a b) h = tt
 
     with_checks_fit : (i : Instruction) (cs : List Condition) (code : Nodes) (later : ℕ) → AllFit cs → nodes_fit rs bs later code ≡ true → nodes_fit rs bs later (with_checks i cs code) ≡ true
     with_checks_fit i [] code later fit h = h
@@ -154,6 +171,22 @@ module _ (rs : List IntegerType) where
     jump_fits n m (operations.Use a) ws within h = h
     jump_fits n m (operations.Call f first count into r) ws within h = h
     jump_fits n m (operations.Return v) ws within h = h
+    jump_fits n m (operations.Move r p i t z size class) ws within h = h
+    jump_fits n m (operations.Offset r p count) ws within h = h
+    jump_fits n m (operations.Same p q) ws within h = h
+    jump_fits n m (operations.Distance r p q z) ws within h = h
+    jump_fits n m (operations.Relate r op p q) ws within h = h
+    jump_fits n m (operations.Take b to from p count whole) ws within h = h
+    jump_fits n m (operations.Put b p from to count whole) ws within h = h
+    jump_fits n m (operations.Read b to p count) ws within h = h
+    jump_fits n m (operations.Write p b from count first) ws within h = h
+    jump_fits n m (operations.Look r p subscript) ws within h = h
+    jump_fits n m (operations.Fill b r) ws within h = h
+    jump_fits n m (operations.Alloc r b size readonly heap) ws within h = h
+    jump_fits n m (operations.Die p) ws within h = h
+    jump_fits n m (operations.Free p) ws within h = h
+    jump_fits n m (operations.MayFail r) ws within h = h
+    jump_fits n m (operations.Limit a b) ws within h = h
     jump_fits n m operations.Exit ws within h = h
 
     more_within : (w n m : ℕ) (ws : List ℕ) → Within n m ws → Within (n + 1) (m + w) (w ∷ ws)

@@ -3,3 +3,4 @@ pub mod Extents
 pub mod Making
 pub mod Fitted
 pub mod Threads
+pub mod Kept

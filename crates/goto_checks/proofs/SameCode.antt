@@ -1,5 +1,5 @@
 -- Plain code with its checks does what strict code does.
-use Rattle.std.proofs.Common.{◌≡◌, sym, map, Option, ℕ, zero, suc, ◌+◌, Bool, true, false, List, [], ◌∷◌, length, Some, None, refl, ap, ◌∙◌, arith}
+use Rattle.std.proofs.Common.{◌≡◌, sym, map, Option, ℕ, zero, suc, ◌+◌, ◌-◌, ◌*◌, Bool, true, false, List, [], ◌∷◌, length, Some, None, refl, ap, ◌∙◌, arith}
 use Rattle.std.specs.Prelude.{option_map, slice_get, pos, not, ◌&&◌, ◌||◌, ◌==◌, int_lt, int_le, if◌then◌else◌}
 use Rattle.words.specs.declared.check.Class.TheVariants as classes
 use Rattle.words.specs.Operators.{word_negation, word_complement, product_fits, sum_fits, difference_fits, left_shift_fits}
@@ -16,13 +16,15 @@ use Rattle.goto_prog.specs.declared.code.Operation.{Operation}
 use Rattle.goto_prog.specs.declared.code.Operation.TheVariants as operations
 use Rattle.goto_prog.specs.declared.code.Instruction.{Instruction}
 use Rattle.actions.specs.Behaviour.{Behaviour}
-use Rattle.actions.specs.declared.action.Action.TheVariants.{Read, Write, Draw}
-use Rattle.c_values.specs.Variables.{pointer_to, put_bytes}
+use Rattle.actions.specs.declared.action.Action.TheVariants.{Read, Write, Look, Draw, Alloc, Die, Free}
+use Rattle.actions.specs.Pointer.{object_of}
+use Rattle.c_values.specs.Variables.{pointer_to, low_bytes, put_bytes, word_count, drawn_count}
+use Rattle.c_values.specs.MadeObjects.{made_of}
 use Rattle.actions.specs.declared.action.Next.TheVariants.{Broken, Blocked}
-use Rattle.goto_prog.specs.Meaning.{Memory, Given, Reading, return_check, arguments_of, received, given_by, register, with_register, with_blocks, bytes_of, word_of, bytes_in, at, or_else, check_class, operates}
+use Rattle.goto_prog.specs.Meaning.{Memory, Given, Reading, return_check, arguments_of, received, given_by, register, with_register, with_blocks, bytes_of, range_check, same_check, inside_check, first_count, first_bytes, word_of, bytes_in, size_in, number_in, at, or_else, check_class, fills, operates}
 use Rattle.core_tree.specs.Ranges.{Limits}
 use Rattle.goto_prog.specs.Nodes.{Nodes, done, plain, repeats, Routine}
-use Rattle.goto_prog.specs.Structured.{Bounded, name_of, tests_in, tests, round_count, rounds, nodes_before}
+use Rattle.goto_prog.specs.Structured.{Bounded, resolved, name_of, tests_in, tests, round_count, rounds, nodes_before}
 use Rattle.goto_checks.specs.Inserted.{arithmetic_checks, sign_checks, checks_of, with_checks, with_count, count_of, widths, extent, jumping, inserted}
 
 one_past : (n : ℕ) → 1 + n ≡ suc n
@@ -107,8 +109,19 @@ module _ (functions : List Routine) (others : List Routine) (limits : Limits) (n
   abbrev pub Same : Places → List ℕ → Places → Type 0
   Same qs ws ps = (n : ℕ) (m : Memory) → at o qs (extent n ws) m ≡ at o ps n m
 
+  same_fills : (words line f b size offset : ℕ) (qs : Places) (ws : List ℕ) (ps : Places) (m : Memory) → Same qs ws ps → fills o words 0 line f b size offset qs m ≡ fills o words 0 line f b size offset ps m
+  same_fills zero line f b size offset qs ws ps m same = same 0 m
+  same_fills (suc k) line f b size offset qs ws ps m same =
+      let count = drawn_count size offset in
+      λ j. o.ask (Draw (8 * count)) line f 0 (λ a. same_fills k line f b size (offset + 8) qs ws ps (with_blocks m (put_bytes m.blocks b offset (low_bytes count (word_of a)))) same j)
+
+  same_fails : (may_fail : Bool) (line f r : ℕ) (qs : Places) (ws : List ℕ) (ps : Places) (m : Memory) → Same qs ws ps
+      → operates o false 0 line f (if may_fail then operations.Draw r 1 else operations.Constant r 0) qs m ≡ operates o true 0 line f (if may_fail then operations.Draw r 1 else operations.Constant r 0) ps m
+  same_fails true line f r qs ws ps m same = λ k. o.ask (Draw 1) line f 0 (λ a. same 0 (with_register m r (word_of a)) k)
+  same_fails false line f r qs ws ps m same = same 0 _
+
   one : (line f : ℕ) (op : Operation) (qs : Places) (ws : List ℕ) (ps : Places) (m : Memory) → Same qs ws ps
-      → all_checks (checks_of op) line f m (operates o false 0 line f (with_count op (extent (count_of op) ws)) qs m) ≡ operates o true 0 line f op ps m
+      → all_checks (checks_of op) line f m (operates o false 0 line f (resolved limits (with_count op (extent (count_of op) ws))) qs m) ≡ operates o true 0 line f (resolved limits op) ps m
   one line f (operations.Constant r bits) qs ws ps m same = same 0 _
   one line f (operations.Copy r a) qs ws ps m same = same 0 _
   one line f (operations.Load r t b offset) qs ws ps m same = same 0 _
@@ -133,6 +146,22 @@ module _ (functions : List Routine) (others : List Routine) (limits : Limits) (n
   one line f (operations.Use a) qs ws ps m same = ap (or_else o (return_check (register m a)) line f) (same 0 m)
   one line f (operations.Call g first count into r) qs ws ps m same = λ k. o.call f g line (arguments_of m.blocks first count) (λ given. same 0 (received m into r given) k)
   one line f (operations.Return v) qs ws ps m same = refl
+  one line f (operations.Move r p i t z size class) qs ws ps m same = ap (or_else o (range_check m p i t z size class) line f) (same 0 _)
+  one line f (operations.Offset r p count) qs ws ps m same = same 0 _
+  one line f (operations.Same p q) qs ws ps m same = ap (or_else o (same_check m p q) line f) (same 0 m)
+  one line f (operations.Distance r p q z) qs ws ps m same = same 0 _
+  one line f (operations.Relate r op p q) qs ws ps m same = same 0 _
+  one line f (operations.Take b to from p count whole) qs ws ps m same = ap (or_else o (inside_check m p count whole) line f) (same 0 _)
+  one line f (operations.Put b p from to count whole) qs ws ps m same = ap (or_else o (inside_check m p count whole) line f) (same 0 _)
+  one line f (operations.Read b to p count) qs ws ps m same = λ k. o.ask (Read (register m p) count) line f 0 (λ a. same 0 (with_blocks m (put_bytes m.blocks b to (bytes_in a))) k)
+  one line f (operations.Write p b from count first) qs ws ps m same = λ k. o.ask (Write (register m p) (bytes_of m.blocks b from count) first) line f 0 (λ a. same 0 (m) k)
+  one line f (operations.Look r p subscript) qs ws ps m same = λ k. o.ask (Look (register m p) subscript) line f 0 (λ a. same 0 (with_register m r (size_in a)) k)
+  one line f (operations.Fill b r) qs ws ps m same = let size = first_count m b r in same_fills (word_count size - 0) line f b size (8 * 0) qs ws ps m same
+  one line f (operations.Alloc r b size readonly heap) qs ws ps m same = λ k. o.ask (Alloc (made_of readonly heap (first_bytes m b size))) line f 0 (λ a. same 0 (with_register m r (pointer_to (number_in a) 0)) k)
+  one line f (operations.Die p) qs ws ps m same = λ k. o.ask (Die (object_of (register m p))) line f 0 (λ a. same 0 (m) k)
+  one line f (operations.Free p) qs ws ps m same = λ k. o.ask (Free (register m p)) line f 0 (λ a. same 0 (m) k)
+  one line f (operations.MayFail r) qs ws ps m same = same_fails limits.malloc_may_fail line f r qs ws ps m same
+  one line f (operations.Limit a b) qs ws ps m same = ap (or_else o (check_class (checks.AtMost a b limits.malloc_limit) m) line f) (same 0 m)
 
   same_rounds : (assertions : Bool) (line f : ℕ) (r s : (Memory → Behaviour) → Memory → Behaviour) → ((a b : Memory → Behaviour) → ((m : Memory) → a m ≡ b m) → (m : Memory) → r a m ≡ s b m)
       → (n : ℕ) (m : Memory) → rounds assertions line f r n m ≡ rounds assertions line f s n m

@@ -44,6 +44,10 @@ abbrev pub checks_of : Operation → List Condition
 checks_of (operations.Sign r op t a) = sign_checks op t a
 checks_of (operations.Arithmetic r op t u a b) = arithmetic_checks op t u a b
 checks_of (operations.Use a) = checks.Returned a ∷ []
+checks_of (operations.Move r p i t n size class) = checks.Within p i t n size class ∷ []
+checks_of (operations.Same p q) = checks.SameObject p q ∷ []
+checks_of (operations.Take b to from p count whole) = checks.Inside p count whole ∷ []
+checks_of (operations.Put b p from to count whole) = checks.Inside p count whole ∷ []
 checks_of _ = []
 
 -- a check as an instruction, at the line and in the function of another

@@ -147,6 +147,43 @@ pub fn checks_of(operation: Operation) -> Checks
             ..
         } => arithmetic_checks(operator, type_, right_type, left, right),
         Operation::Use { returned } => one_check(Condition::Returned { returned }),
+        Operation::Move {
+            pointer,
+            index,
+            index_type,
+            step,
+            size,
+            class,
+            ..
+        } => one_check(Condition::Within {
+            pointer,
+            index,
+            index_type,
+            step,
+            size,
+            class,
+        }),
+        Operation::Same { left, right } => one_check(Condition::SameObject { left, right }),
+        Operation::Take {
+            offset,
+            count,
+            whole,
+            ..
+        } => one_check(Condition::Inside {
+            offset,
+            count,
+            whole,
+        }),
+        Operation::Put {
+            offset,
+            count,
+            whole,
+            ..
+        } => one_check(Condition::Inside {
+            offset,
+            count,
+            whole,
+        }),
         _ => no_check(),
     }
 }

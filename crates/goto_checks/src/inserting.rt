@@ -4,6 +4,8 @@ ghost use Rattle.std.specs.Prelude.{◌≡◌, ◌+◌, true, List, ℕ, length,
 ghost use Rattle.core_tree.specs.Ranges.{Limits};
 ghost use Rattle.goto_prog.specs.Nodes.{Nodes, plain, with_node, nodes_of, view_procedure, view_procedures, routine_fits, routines_fit};
 ghost use Rattle.goto_prog.specs.GotoThreads.{plain_thread, strict_thread};
+ghost use Rattle.goto_prog.specs.Allocations.{allocations};
+ghost use Rattle.goto_prog.specs.Static.{are_static};
 ghost use Rattle.goto_prog.specs.Same.{DoSame};
 ghost use Rattle.goto_checks.specs.Inserted.{check_at, with_checks, count_of, with_count, jumping, checks_of, widths, sums, inserted, with_inserted};
 
@@ -176,13 +178,16 @@ fn all_checked(alloc: Global, procedures: &[Procedure]) -> Result<Vec<Procedure>
 /// Puts an explicit check before each operation that may be undefined (C11 6.5p5, 6.5.5p5, 6.5.7p3,
 /// 6.9.1p12), at the operation's line and in its function, of the class that strict code breaks there by
 /// itself: a divisor of 0 before a quotient that is out of range. Checks that are there already stay. Plain
-/// code then does what the strict code did, under all bounds. Takes time linear in the code.
+/// code then does what the strict code did, under all bounds. It makes as many objects, and has no operations on
+/// pointers where the strict code has none. Takes time linear in the code.
 #[tactic(auto, using(crate::proofs::Fitted::all_fit))]
 pub fn insert(alloc: Global, goto: Goto) -> Result<Goto, AllocError>
     ensures same { IfOk result (λ g. (limits : Limits) → DoSame (plain_thread g limits) (strict_thread goto limits)) }
     ensures code { IfOk result (λ g. view_procedures g.functions ≡ map with_inserted (view_procedures goto.functions)) }
     ensures main { IfOk result (λ g. g.main ≡ goto.main) }
     ensures store { IfOk result (λ g. g.store ≡ goto.store) }
+    ensures plain { IfOk result (λ g. are_static (view_procedures goto.functions) ≡ true → are_static (view_procedures g.functions) ≡ true) }
+    ensures allocations { IfOk result (λ g. (limits : Limits) → allocations g limits ≡ allocations goto limits) }
 {
     let (procedures, main, store) = goto.into_parts();
     Ok(Goto::new(all_checked(alloc, &procedures)?, main, store))

@@ -9,6 +9,7 @@ ghost use Rattle.c_meaning.specs.Source.{source_thread, first_objects};
 ghost use Rattle.goto_prog.specs.Nodes.{plain, nodes_of, view_procedure, view_procedures};
 ghost use Rattle.goto_prog.specs.GotoThreads.{strict_thread};
 ghost use Rattle.goto_prog.specs.Same.{DoSame};
+ghost use Rattle.goto_prog.specs.Static.{are_static};
 ghost use Rattle.goto_prog.specs.declared.code.Operation.TheVariants as operations;
 ghost use Rattle.lowered_code.specs.Lowering.{at_line, ends};
 ghost use Rattle.c_temporaries.specs.Temporaries.{statement_temporaries};
@@ -177,12 +178,14 @@ fn lower_objects(alloc: Global, file: &Admitted) -> Result<Store, AllocError>
 
 /// The code of a file, with loops and calls: what it does as strict code under the bounds of a command is
 /// what the file means under them. Its store is the first store of the file, where the static objects and the
-/// literals alone pass no limit. There is no code yet for forms over pointers. Fails only for want of memory.
+/// literals alone pass no limit. There is no code yet for forms over pointers, so it has no operations on pointers. Fails only
+/// for want of memory.
 pub fn lower(alloc: Global, file: &Admitted) -> Result<Goto, AllocError>
     requires plain { file.now.pointers ≡ false }
     ensures code { IfOk result (λ g. view_goto g ≡ lowered (view_core file.now)) }
     ensures same { IfOk result (λ g. (bounds : Limits) → DoSame (strict_thread g bounds) (source_thread (view_core file.now) bounds)) }
     ensures store { source.are_storable (view_core file.now) ≡ true → IfOk result (λ g. g.store ≡ first_objects (view_core file.now)) }
+    ensures plain { IfOk result (λ g. are_static (view_procedures g.functions) ≡ true) }
 {
     let core = file.core();
     let functions = core.functions();

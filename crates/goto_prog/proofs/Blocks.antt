@@ -10,12 +10,16 @@ use Rattle.c_types.specs.declared.integers.IntegerType.{IntegerType}
 use Rattle.c_types.specs.declared.integers.IntegerType.TheVariants as types
 use Rattle.c_types.specs.Integers.{width}
 use Rattle.core_tree.specs.Typed.{is_within}
-use Rattle.c_values.specs.Variables.{low_bytes, put_at, zeros, block_of, first_variables}
+use Rattle.c_values.specs.Variables.{low_bytes, put_at, put_bytes, zeros, block_of, first_variables, word_count, drawn_count}
+use Rattle.goto_prog.specs.Meaning.{Memory, register, with_blocks, first_count, taken_at, put_within}
 use Rattle.goto_prog.specs.Fitting.{has_bytes, is_block, is_there}
 use Rattle.goto_prog.proofs.Registers.{both, test_below, at_most_64}
 
 pub test_within : (m n : ℕ) → nat_le m n ≡ true → m ≤ n
 test_within m n h = grind (arith, nat_tests)
+
+within_test : (m n : ℕ) → m ≤ n → nat_le m n ≡ true
+within_test m n h = grind (arith, nat_tests)
 
 equal_sizes : (m n : ℕ) → (m == n) ≡ true → m ≡ n
 equal_sizes m n h = grind (arith, nat_tests)
@@ -145,3 +149,57 @@ pub sizes_filled : (sizes : List ℕ) (blocks : List (List ℕ)) (b : ℕ) (byte
 sizes_filled sizes blocks b bytes d same =
     let block = get_or blocks b d in
     map-set_same length blocks b (put_at 0 (take (length block) bytes) block) d (put_size 0 (take (length block) bytes) block (omega (arith, length-take (length block) bytes))) ∙ same
+
+-- ---- words that fill a block
+
+-- so many bytes from the place of a word on are among the first bytes
+word_room : (size words : ℕ) → words < word_count size → 8 * words + drawn_count size (8 * words) ≤ size
+word_room size words more = omega (arith, more)
+
+few_bytes : (size offset : ℕ) → drawn_count size offset ≤ 8
+few_bytes size offset = omega arith
+
+first_within : (m : Memory) (b r : ℕ) → first_count m b r ≤ length (block_of m.blocks b)
+first_within m b r = omega arith
+
+pub word_within : (sizes : List ℕ) (m : Memory) (b r words : ℕ) → map length m.blocks ≡ sizes → nat_lt b (length sizes) ≡ true → words < word_count (first_count m b r)
+    → is_within sizes b (8 * words) (drawn_count (first_count m b r) (8 * words)) ≡ true
+word_within sizes m b r words same there more =
+    let size = first_count m b r in
+    let fits : 8 * words + drawn_count size (8 * words) ≤ slice_index sizes b = omega (arith, word_room size words more, first_within m b r, size_at sizes m.blocks b same) in
+    λ k. there k && within_test (8 * words + drawn_count size (8 * words)) (slice_index sizes b) fits k
+
+pub first_count_kept : (sizes : List ℕ) (m : Memory) (b r words bits : ℕ) → map length m.blocks ≡ sizes → nat_lt b (length sizes) ≡ true → words < word_count (first_count m b r)
+    → first_count (with_blocks m (put_bytes m.blocks b (8 * words) (low_bytes (drawn_count (first_count m b r) (8 * words)) bits))) b r ≡ first_count m b r
+first_count_kept sizes m b r words bits same there more =
+    let size = first_count m b r in
+    let count = drawn_count size (8 * words) in
+    let kept : map length (put_bytes m.blocks b (8 * words) (low_bytes count bits)) ≡ sizes = sizes_put sizes m.blocks b (8 * words) count bits [] same (word_within sizes m b r words same there more) (few_bytes size (8 * words)) in
+    ap (λ n. min (register m r) n) (sym (size_at sizes (put_bytes m.blocks b (8 * words) (low_bytes count bits)) b kept) ∙ size_at sizes m.blocks b same)
+
+-- ---- bytes at an offset that may be past the end
+
+taken_size : (count offset : ℕ) (block : List ℕ) → length (taken_at count offset block) ≡ count
+taken_size count offset block =
+    let long = length-append (drop offset block) (zeros count) in
+    length-take-le count (drop offset block ++ zeros count) (omega (arith, long, length-replicate {A = ℕ} count 0))
+
+pub taken_room : (sizes : List ℕ) (blocks : List (List ℕ)) (into to offset count : ℕ) (block d : List ℕ) → map length blocks ≡ sizes → is_within sizes into to count ≡ true → to + length (taken_at count offset block) ≤ length (get_or blocks into d)
+taken_room sizes blocks into to offset count block d same there = omega (arith, taken_size count offset block, block_room sizes blocks into to count d same there)
+
+pub sizes_taken : (sizes : List ℕ) (blocks : List (List ℕ)) (into to offset count : ℕ) (block d : List ℕ) → map length blocks ≡ sizes → is_within sizes into to count ≡ true
+    → map length (slice_set blocks into (put_at to (taken_at count offset block) (get_or blocks into d))) ≡ sizes
+sizes_taken sizes blocks into to offset count block d same there =
+    let new = taken_at count offset block in
+    map-set_same length blocks into (put_at to new (get_or blocks into d)) d (put_size to new (get_or blocks into d) (taken_room sizes blocks into to offset count block d same there)) ∙ same
+
+pub within_size : (offset : ℕ) (new old : List ℕ) → length (put_within offset new old) ≡ length old
+within_size offset new old =
+    let front = length-take offset old in
+    let rest = length-append new (drop (offset + length new) old) in
+    let all = length-append (take offset old) (new ++ drop (offset + length new) old) in
+    length-take-le (length old) (put_at offset new old) (omega (arith, front, rest, all, length-drop (offset + length new) old))
+
+pub sizes_within : (sizes : List ℕ) (blocks : List (List ℕ)) (b offset : ℕ) (new d : List ℕ) → map length blocks ≡ sizes
+    → map length (slice_set blocks b (put_within offset new (get_or blocks b d))) ≡ sizes
+sizes_within sizes blocks b offset new d same = map-set_same length blocks b (put_within offset new (get_or blocks b d)) d (within_size offset new (get_or blocks b d)) ∙ same

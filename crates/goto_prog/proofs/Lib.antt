@@ -1,5 +1,7 @@
 pub mod Registers
 pub mod Blocks
+pub mod Exchanges
+pub mod Distances
 pub mod Stepping
 pub mod Levels
 pub mod Places

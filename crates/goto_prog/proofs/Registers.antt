@@ -9,7 +9,7 @@ use Rattle.c_types.specs.Integers.{width, same_integer, number_of}
 use Rattle.core_tree.specs.declared.operators.ArithmeticOperator.{ArithmeticOperator}
 use Rattle.core_tree.specs.Typed.{is_shift}
 use Rattle.c_values.specs.Numbers.{same_width, are_operands_of}
-use Rattle.goto_prog.specs.Fitting.{is_there, is_register, is_wide}
+use Rattle.goto_prog.specs.Fitting.{is_there, is_register, is_pointer, is_wide}
 use Rattle.goto_prog.specs.Frames.{registers_fit}
 
 positive : (t : IntegerType) → nat_lt 0 (2 ^ width t) ≡ true
@@ -147,3 +147,10 @@ or_true false = refl
 -- two numbers of one type are operands of every operation
 pub operands_same : (op : ArithmeticOperator) (t : IntegerType) → are_operands_of op t t ≡ true
 operands_same op t = ap (λ b. is_shift op || b) (same_itself (width t)) ∙ or_true (is_shift op)
+
+-- the registers of a pointer that is moved
+pub moved_parts : (ts : List IntegerType) (p i size : ℕ) (t : IntegerType) → (is_pointer ts p && is_register ts i t && is_pointer ts size) ≡ true → (is_pointer ts p ≡ true) × (is_register ts i t ≡ true) × (is_pointer ts size ≡ true)
+moved_parts ts p i size t h =
+    let parts = both (is_pointer ts p && is_register ts i t) (is_pointer ts size) h in
+    let more = both (is_pointer ts p) (is_register ts i t) parts.0 in
+    (more.0, more.1, parts.1)

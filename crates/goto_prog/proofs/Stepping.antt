@@ -1,6 +1,6 @@
 -- From a place of code to the next.
-use Rattle.std.proofs.Common.{◌≡◌, ℕ, zero, suc, ◌+◌, ◌<◌, ◌≤◌, ◌^◌, nat_lt, Bool, true, false, ◌&&◌, List, [], ◌∷◌, length, drop, Option, Some, None, refl, sym, ap, ◌∙◌, subst, arith, inl, inr}
-use Rattle.std.specs.Prelude.{nat_le, slice_get, slice_index_or, if◌then◌else◌, ◌==◌}
+use Rattle.std.proofs.Common.{◌≡◌, ℕ, zero, suc, ◌+◌, ◌-◌, ◌*◌, ◌<◌, ◌≤◌, ◌^◌, nat_lt, Bool, true, false, ◌&&◌, List, [], ◌∷◌, length, drop, Option, Some, None, refl, sym, ap, ◌∙◌, subst, arith, inl, inr}
+use Rattle.std.specs.Prelude.{MatchOption, nat_le, slice_get, slice_index_or, if◌then◌else◌, ◌==◌}
 use Rattle.std.proofs.lemmas.Bool.{false≢true}
 use Rattle.std.proofs.lemmas.Bool.Decides.{nat_tests}
 use Rattle.std.proofs.lemmas.List.{drop-drop, drop_more, drop_all, length-drop}
@@ -22,42 +22,63 @@ use Rattle.words.proofs.Powers.{pow_grows}
 use Rattle.goto_prog.specs.declared.code.Instruction.{Instruction}
 use Rattle.goto_prog.specs.declared.code.Operation.{Operation}
 use Rattle.goto_prog.specs.declared.code.Operation.TheVariants as operations
-use Rattle.actions.specs.ByteList.{are_bytes}
-use Rattle.core_tree.specs.Typed.{is_within}
-use Rattle.c_values.specs.Variables.{pointer_to, put_bytes}
-use Rattle.goto_prog.specs.Meaning.{Memory, word_of, bytes_in, register, with_register, with_blocks, bytes_of, own_class, calculated, check_class, at, or_else, operates, places}
+use Rattle.c_values.specs.Variables.{low_bytes, put_bytes, word_count, drawn_count}
+use Rattle.goto_prog.specs.Meaning.{Memory, word_of, register, with_blocks, first_count, action_of, answered_with, own_class, calculated, check_class, at, or_else, fills, fills_on, operates, operates_on, places}
 use Rattle.goto_prog.specs.Threads.{behaving, final, ask}
 use Rattle.goto_prog.specs.CodeThread.{Listing, runs, code_program}
-use Rattle.goto_prog.specs.Fitting.{is_there, check_fits, operation_fits, code_fits}
-use Rattle.goto_prog.specs.Running.{Running, thread_of, is_calculation, is_action, acts, is_act, GoesOn, Stops}
-use Rattle.goto_prog.proofs.Registers.{both, test_below, at_most_64}
+use Rattle.goto_prog.specs.Fitting.{is_there, is_pointer, check_fits, operation_fits, code_fits}
+use Rattle.goto_prog.specs.Running.{Running, Flowing, thread_of, flow_thread, goes_on_from, goes_on_with, is_calculation, is_exchange, is_fill, asks_bounds, acts, acts_on, is_act, GoesOn, GoesOnWith, Stops, Steps}
+use Rattle.goto_prog.proofs.Registers.{both, test_below}
+use Rattle.goto_prog.proofs.Exchanges.{exchanges, on_none, on_other, exchange_single, exchange_acts, exchange_fits, word_taken, nothing_left, word_left, words_behind}
 
 -- the number of a place makes no difference to behaviours
+fills-free : (k p line f b size offset : ℕ) (ps : List (Memory → Behaviour)) (m : Memory) → fills behaving k p line f b size offset ps m ≡ fills behaving k 0 line f b size offset ps m
+fills-free zero p line f b size offset ps m = refl
+fills-free (suc k) p line f b size offset ps m =
+    let count = drawn_count size offset in
+    λ j. ask (actions.Draw (8 * count)) line f (λ a. fills-free k p line f b size (offset + 8) ps (with_blocks m (put_bytes m.blocks b offset (low_bytes count (word_of a)))) j)
+
 pub free : (strict : Bool) (p line f : ℕ) (o : Operation) (ps : List (Memory → Behaviour)) (m : Memory) → operates behaving strict p line f o ps m ≡ operates behaving strict 0 line f o ps m
-free strict p line f (operations.Constant r bits) ps m = refl
-free strict p line f (operations.Copy r a) ps m = refl
-free strict p line f (operations.Load r t b offset) ps m = refl
-free strict p line f (operations.Store b offset count a) ps m = refl
-free strict p line f (operations.Clear b size) ps m = refl
-free strict p line f (operations.CopyBytes into to from offset count) ps m = refl
-free strict p line f (operations.Convert r from to a) ps m = refl
-free strict p line f (operations.Sign r op t a) ps m = refl
-free strict p line f (operations.Arithmetic r op t u a b) ps m = refl
-free strict p line f (operations.Compare r op t a b) ps m = refl
-free strict p line f (operations.IsZero r a) ps m = refl
-free strict p line f (operations.Skip n) ps m = refl
-free strict p line f (operations.SkipIfZero a n) ps m = refl
-free strict p line f (operations.Check c) ps m = refl
-free strict p line f (operations.Assert a) ps m = refl
-free strict p line f (operations.Assume a) ps m = refl
-free strict p line f (operations.Draw r bits) ps m = refl
-free strict p line f (operations.ReadObject b to k offset count) ps m = refl
-free strict p line f (operations.WriteObject k offset b from count) ps m = refl
-free strict p line f operations.Exit ps m = refl
-free strict p line f (operations.Fail class) ps m = refl
-free strict p line f (operations.Use a) ps m = refl
-free strict p line f (operations.Call g first count into r) ps m = refl
-free strict p line f (operations.Return v) ps m = refl
+free strict x line f (operations.Constant r bits) ps m = refl
+free strict x line f (operations.Copy r a) ps m = refl
+free strict x line f (operations.Load r t b offset) ps m = refl
+free strict x line f (operations.Store b offset count a) ps m = refl
+free strict x line f (operations.Clear b size) ps m = refl
+free strict x line f (operations.CopyBytes into to from offset count) ps m = refl
+free strict x line f (operations.Convert r from to a) ps m = refl
+free strict x line f (operations.Sign r op t a) ps m = refl
+free strict x line f (operations.Arithmetic r op t u a b) ps m = refl
+free strict x line f (operations.Compare r op t a b) ps m = refl
+free strict x line f (operations.IsZero r a) ps m = refl
+free strict x line f (operations.Skip n) ps m = refl
+free strict x line f (operations.SkipIfZero a n) ps m = refl
+free strict x line f (operations.Check c) ps m = refl
+free strict x line f (operations.Assert a) ps m = refl
+free strict x line f (operations.Assume a) ps m = refl
+free strict x line f (operations.Draw r bits) ps m = refl
+free strict x line f (operations.ReadObject b to k offset count) ps m = refl
+free strict x line f (operations.WriteObject k offset b from count) ps m = refl
+free strict x line f operations.Exit ps m = refl
+free strict x line f (operations.Fail class) ps m = refl
+free strict x line f (operations.Use a) ps m = refl
+free strict x line f (operations.Call g first count into r) ps m = refl
+free strict x line f (operations.Return v) ps m = refl
+free strict x line f (operations.Move r p i t n size class) ps m = refl
+free strict x line f (operations.Offset r p count) ps m = refl
+free strict x line f (operations.Same p q) ps m = refl
+free strict x line f (operations.Distance r p q n) ps m = refl
+free strict x line f (operations.Relate r op p q) ps m = refl
+free strict x line f (operations.Take b to from p count whole) ps m = refl
+free strict x line f (operations.Put b p from to count whole) ps m = refl
+free strict x line f (operations.Read b to p count) ps m = refl
+free strict x line f (operations.Write p b from count first) ps m = refl
+free strict x line f (operations.Look r p subscript) ps m = refl
+free strict x line f (operations.Fill b r) ps m = let size = first_count m b r in fills-free (word_count size - 0) x line f b size (8 * 0) ps m
+free strict x line f (operations.Alloc r b size readonly heap) ps m = refl
+free strict x line f (operations.Die p) ps m = refl
+free strict x line f (operations.Free p) ps m = refl
+free strict x line f (operations.MayFail r) ps m = refl
+free strict x line f (operations.Limit a b) ps m = refl
 
 pub places-free : (strict : Bool) (p q : ℕ) (xs : List Instruction) → places behaving strict p xs ≡ places behaving strict q xs
 places-free strict p q [] = refl
@@ -116,32 +137,55 @@ fits_at rs bs xs place i h found =
     (both (operation_fits rs bs (length (drop (place + 1) xs)) i.operation) (code_fits rs bs (drop (place + 1) xs)) kept).0
 
 pub calculation_fits : (rs : List IntegerType) (bs : List ℕ) (n : ℕ) (o : Operation) → is_calculation o ≡ true → operation_fits rs bs n o ≡ true → operation_fits rs bs 0 o ≡ true
-calculation_fits rs bs n (operations.Constant r bits) calculates h = h
-calculation_fits rs bs n (operations.Copy r a) calculates h = h
-calculation_fits rs bs n (operations.Load r t b offset) calculates h = h
-calculation_fits rs bs n (operations.Store b offset count a) calculates h = h
-calculation_fits rs bs n (operations.Clear b size) calculates h = h
-calculation_fits rs bs n (operations.CopyBytes into to from offset count) calculates h = h
-calculation_fits rs bs n (operations.Convert r from to a) calculates h = h
-calculation_fits rs bs n (operations.Sign r op t a) calculates h = h
-calculation_fits rs bs n (operations.Arithmetic r op t u a b) calculates h = h
-calculation_fits rs bs n (operations.Compare r op t a b) calculates h = h
-calculation_fits rs bs n (operations.IsZero r a) calculates h = h
-calculation_fits rs bs n (operations.Skip k) calculates h = absurd (false≢true calculates)
-calculation_fits rs bs n (operations.SkipIfZero a k) calculates h = absurd (false≢true calculates)
-calculation_fits rs bs n (operations.Check c) calculates h = h
-calculation_fits rs bs n (operations.Assert a) calculates h = h
-calculation_fits rs bs n (operations.Assume a) calculates h = h
-calculation_fits rs bs n (operations.Draw r bits) calculates h = h
-calculation_fits rs bs n (operations.ReadObject b to k offset count) calculates h = h
-calculation_fits rs bs n (operations.WriteObject k offset b from count) calculates h = h
-calculation_fits rs bs n operations.Exit calculates h = h
-calculation_fits rs bs n (operations.Fail class) calculates h = h
-calculation_fits rs bs n (operations.Use a) calculates h = h
-calculation_fits rs bs n (operations.Call f first count into r) calculates h = h
-calculation_fits rs bs n (operations.Return v) calculates h = h
+calculation_fits rs bs later (operations.Constant r bits) h fits = fits
+calculation_fits rs bs later (operations.Copy r a) h fits = fits
+calculation_fits rs bs later (operations.Load r t b offset) h fits = fits
+calculation_fits rs bs later (operations.Store b offset count a) h fits = fits
+calculation_fits rs bs later (operations.Clear b size) h fits = fits
+calculation_fits rs bs later (operations.CopyBytes into to from offset count) h fits = fits
+calculation_fits rs bs later (operations.Convert r from to a) h fits = fits
+calculation_fits rs bs later (operations.Sign r op t a) h fits = fits
+calculation_fits rs bs later (operations.Arithmetic r op t u a b) h fits = fits
+calculation_fits rs bs later (operations.Compare r op t a b) h fits = fits
+calculation_fits rs bs later (operations.IsZero r a) h fits = fits
+calculation_fits rs bs later (operations.Skip n) h fits = absurd (false≢true h)
+calculation_fits rs bs later (operations.SkipIfZero a n) h fits = absurd (false≢true h)
+calculation_fits rs bs later (operations.Check c) h fits = fits
+calculation_fits rs bs later (operations.Assert a) h fits = fits
+calculation_fits rs bs later (operations.Assume a) h fits = fits
+calculation_fits rs bs later (operations.Draw r bits) h fits = fits
+calculation_fits rs bs later (operations.ReadObject b to k offset count) h fits = fits
+calculation_fits rs bs later (operations.WriteObject k offset b from count) h fits = fits
+calculation_fits rs bs later operations.Exit h fits = fits
+calculation_fits rs bs later (operations.Fail class) h fits = fits
+calculation_fits rs bs later (operations.Use a) h fits = fits
+calculation_fits rs bs later (operations.Call g first count into r) h fits = fits
+calculation_fits rs bs later (operations.Return v) h fits = fits
+calculation_fits rs bs later (operations.Move r p i t n size class) h fits = fits
+calculation_fits rs bs later (operations.Offset r p count) h fits = fits
+calculation_fits rs bs later (operations.Same p q) h fits = fits
+calculation_fits rs bs later (operations.Distance r p q n) h fits = fits
+calculation_fits rs bs later (operations.Relate r op p q) h fits = fits
+calculation_fits rs bs later (operations.Take b to from p count whole) h fits = fits
+calculation_fits rs bs later (operations.Put b p from to count whole) h fits = fits
+calculation_fits rs bs later (operations.Read b to p count) h fits = fits
+calculation_fits rs bs later (operations.Write p b from count first) h fits = fits
+calculation_fits rs bs later (operations.Look r p subscript) h fits = fits
+calculation_fits rs bs later (operations.Fill b r) h fits = fits
+calculation_fits rs bs later (operations.Alloc r b size readonly heap) h fits = fits
+calculation_fits rs bs later (operations.Die p) h fits = fits
+calculation_fits rs bs later (operations.Free p) h fits = fits
+calculation_fits rs bs later (operations.MayFail r) h fits = fits
+calculation_fits rs bs later (operations.Limit a b) h fits = fits
 
 -- ---- steps
+
+pub holds_below : (m n : ℕ) → m < n → nat_lt m n ≡ true
+holds_below m n h = grind (arith, nat_tests)
+
+pub none_go_on : (words : ℕ) (r : Running) → slice_get r.code.instructions r.place ≡ None → GoesOnWith words r r None
+none_go_on zero r none = (refl, refl, refl, refl)
+none_go_on (suc k) r none = (sym (ap (goes_on_from (suc k) r) none), refl, refl, refl)
 
 module _ (r : Running) (i : Instruction) (found : slice_get r.code.instructions r.place ≡ Some i) where
   abbrev Here : Behaviour → Type 0
@@ -188,19 +232,19 @@ module _ (r : Running) (i : Instruction) (found : slice_get r.code.instructions 
   plain b = ap (λ c. or_else behaving c i.line i.function b) (none_either r.strict)
 
   calculates : (o : Operation) → is_calculation o ≡ true → operated o ≡ or_else behaving (strict_class o) i.line i.function (at behaving (behind r.strict r.code r.place) 0 (calculated o r.memory))
-  calculates (operations.Constant q bits) h = plain _
-  calculates (operations.Copy q a) h = plain _
-  calculates (operations.Load q t b offset) h = plain _
+  calculates (operations.Constant z bits) h = plain _
+  calculates (operations.Copy z a) h = plain _
+  calculates (operations.Load z t b offset) h = plain _
   calculates (operations.Store b offset count a) h = plain _
   calculates (operations.Clear b size) h = plain _
   calculates (operations.CopyBytes into to from offset count) h = plain _
-  calculates (operations.Convert q from to a) h = plain _
-  calculates (operations.Sign q op t a) h = refl
-  calculates (operations.Arithmetic q op t u a b) h = refl
-  calculates (operations.Compare q op t a b) h = plain _
-  calculates (operations.IsZero q a) h = plain _
-  calculates (operations.Skip k) h = absurd (false≢true h)
-  calculates (operations.SkipIfZero a k) h = absurd (false≢true h)
+  calculates (operations.Convert z from to a) h = plain _
+  calculates (operations.Sign z op t a) h = refl
+  calculates (operations.Arithmetic z op t u a b) h = refl
+  calculates (operations.Compare z op t a b) h = plain _
+  calculates (operations.IsZero z a) h = plain _
+  calculates (operations.Skip n) h = absurd (false≢true h)
+  calculates (operations.SkipIfZero a n) h = absurd (false≢true h)
   calculates (operations.Check c) h = absurd (false≢true h)
   calculates (operations.Assert a) h = absurd (false≢true h)
   calculates (operations.Assume a) h = absurd (false≢true h)
@@ -210,8 +254,24 @@ module _ (r : Running) (i : Instruction) (found : slice_get r.code.instructions 
   calculates operations.Exit h = absurd (false≢true h)
   calculates (operations.Fail class) h = absurd (false≢true h)
   calculates (operations.Use a) h = refl
-  calculates (operations.Call g first count into q) h = absurd (false≢true h)
+  calculates (operations.Call g first count into z) h = absurd (false≢true h)
   calculates (operations.Return v) h = absurd (false≢true h)
+  calculates (operations.Move q p k t n size class) h = refl
+  calculates (operations.Offset z p count) h = plain _
+  calculates (operations.Same p q) h = refl
+  calculates (operations.Distance z p q n) h = plain _
+  calculates (operations.Relate z op p q) h = plain _
+  calculates (operations.Take b to from p count whole) h = refl
+  calculates (operations.Put b p from to count whole) h = refl
+  calculates (operations.Read b to p count) h = absurd (false≢true h)
+  calculates (operations.Write p b from count first) h = absurd (false≢true h)
+  calculates (operations.Look z p subscript) h = absurd (false≢true h)
+  calculates (operations.Fill b z) h = absurd (false≢true h)
+  calculates (operations.Alloc z b size readonly heap) h = absurd (false≢true h)
+  calculates (operations.Die p) h = absurd (false≢true h)
+  calculates (operations.Free p) h = absurd (false≢true h)
+  calculates (operations.MayFail z) h = absurd (false≢true h)
+  calculates (operations.Limit a b) h = absurd (false≢true h)
 
   pub goes_calculated : is_calculation i.operation ≡ true → strict_class i.operation ≡ None → GoesOn r (record r { place = r.place + 1 + 0; memory = calculated i.operation r.memory })
   goes_calculated h none = goes 0 (calculated i.operation r.memory) (calculates i.operation h ∙ ap (λ c. or_else behaving c i.line i.function (at behaving (behind r.strict r.code r.place) 0 (calculated i.operation r.memory))) none) (omega arith)
@@ -264,32 +324,130 @@ module _ (r : Running) (i : Instruction) (found : slice_get r.code.instructions 
   pub stops_return : (v : Option ℕ) → Is (operations.Return v) → Stops r r Blocked
   stops_return v is = stops Blocked refl (ap operated is)
 
-  pub stops_draw : (q bits : ℕ) → Is (operations.Draw q bits) → Stops r r (Act (actions.Draw bits) i.line i.function)
-  stops_draw q bits is = record {
+  pub stops_exchange : is_exchange i.operation ≡ true → Stops r r (Act (action_of i.operation r.memory) i.line i.function)
+  stops_exchange h = record {
     unchanged = refl;
-    next_is = sym (λ k. (at_place r.strict r.code r.place i r.memory found ∙ ap operated is) k []);
-    acting = λ act. ap acts found ∙ ap is_action is;
+    next_is = sym (λ k. (at_place r.strict r.code r.place i r.memory found ∙ exchanges behaving r.strict 0 i.line i.function (behind r.strict r.code r.place) r.memory i.operation h) k []);
+    acting = λ act. ap (λ x. acts 0 x r.memory) found ∙ exchange_acts 0 i.operation r.memory h;
   }
 
-  pub stops_read : (b to k offset count : ℕ) → Is (operations.ReadObject b to k offset count) → Stops r r (Act (actions.Read (pointer_to k offset) count) i.line i.function)
-  stops_read b to k offset count is = record {
-    unchanged = refl;
-    next_is = sym (λ k. (at_place r.strict r.code r.place i r.memory found ∙ ap operated is) k []);
-    acting = λ act. ap acts found ∙ ap is_action is;
-  }
+  unbounded : (o : Operation) → asks_bounds o ≡ true → operated o ≡ final Blocked
+  unbounded (operations.Constant z bits) h = absurd (false≢true h)
+  unbounded (operations.Copy z a) h = absurd (false≢true h)
+  unbounded (operations.Load z t b offset) h = absurd (false≢true h)
+  unbounded (operations.Store b offset count a) h = absurd (false≢true h)
+  unbounded (operations.Clear b size) h = absurd (false≢true h)
+  unbounded (operations.CopyBytes into to from offset count) h = absurd (false≢true h)
+  unbounded (operations.Convert z from to a) h = absurd (false≢true h)
+  unbounded (operations.Sign z op t a) h = absurd (false≢true h)
+  unbounded (operations.Arithmetic z op t u a b) h = absurd (false≢true h)
+  unbounded (operations.Compare z op t a b) h = absurd (false≢true h)
+  unbounded (operations.IsZero z a) h = absurd (false≢true h)
+  unbounded (operations.Skip n) h = absurd (false≢true h)
+  unbounded (operations.SkipIfZero a n) h = absurd (false≢true h)
+  unbounded (operations.Check c) h = absurd (false≢true h)
+  unbounded (operations.Assert a) h = absurd (false≢true h)
+  unbounded (operations.Assume a) h = absurd (false≢true h)
+  unbounded (operations.Draw z bits) h = absurd (false≢true h)
+  unbounded (operations.ReadObject b to k offset count) h = absurd (false≢true h)
+  unbounded (operations.WriteObject k offset b from count) h = absurd (false≢true h)
+  unbounded operations.Exit h = absurd (false≢true h)
+  unbounded (operations.Fail class) h = absurd (false≢true h)
+  unbounded (operations.Use a) h = absurd (false≢true h)
+  unbounded (operations.Call g first count into z) h = absurd (false≢true h)
+  unbounded (operations.Return v) h = absurd (false≢true h)
+  unbounded (operations.Move z p w t n size class) h = absurd (false≢true h)
+  unbounded (operations.Offset z p count) h = absurd (false≢true h)
+  unbounded (operations.Same p q) h = absurd (false≢true h)
+  unbounded (operations.Distance z p q n) h = absurd (false≢true h)
+  unbounded (operations.Relate z op p q) h = absurd (false≢true h)
+  unbounded (operations.Take b to from p count whole) h = absurd (false≢true h)
+  unbounded (operations.Put b p from to count whole) h = absurd (false≢true h)
+  unbounded (operations.Read b to p count) h = absurd (false≢true h)
+  unbounded (operations.Write p b from count first) h = absurd (false≢true h)
+  unbounded (operations.Look z p subscript) h = absurd (false≢true h)
+  unbounded (operations.Fill b z) h = absurd (false≢true h)
+  unbounded (operations.Alloc z b size readonly heap) h = absurd (false≢true h)
+  unbounded (operations.Die p) h = absurd (false≢true h)
+  unbounded (operations.Free p) h = absurd (false≢true h)
+  unbounded (operations.MayFail z) h = refl
+  unbounded (operations.Limit a b) h = refl
 
-  pub stops_write : (k offset b from count : ℕ) → Is (operations.WriteObject k offset b from count) → Stops r r (Act (actions.Write (pointer_to k offset) (bytes_of r.memory.blocks b from count) false) i.line i.function)
-  stops_write k offset b from count is = record {
-    unchanged = refl;
-    next_is = sym (λ k. (at_place r.strict r.code r.place i r.memory found ∙ ap operated is) k []);
-    acting = λ act. ap acts found ∙ ap is_action is;
-  }
+  pub stops_unbounded : asks_bounds i.operation ≡ true → Stops r r Blocked
+  stops_unbounded h = stops Blocked refl (unbounded i.operation h)
+
+  -- ---- words
+
+  -- what is done where some have been drawn
+  pub with_words : (words : ℕ) → goes_on_with words r ≡ operates_on behaving words r.strict 0 i.line i.function i.operation (behind r.strict r.code r.place) r.memory
+  with_words zero = at_place r.strict r.code r.place i r.memory found ∙ on_none behaving r.strict 0 i.line i.function (behind r.strict r.code r.place) r.memory i.operation
+  with_words (suc k) = ap (goes_on_from (suc k) r) found
+
+  module _ (b q : ℕ) (is : Is (operations.Fill b q)) (words : ℕ) where
+    pub with_fill : goes_on_with words r ≡ fills_on behaving words 0 i.line i.function b q (behind r.strict r.code r.place) r.memory
+    with_fill = with_words words ∙ ap (λ o. operates_on behaving words r.strict 0 i.line i.function o (behind r.strict r.code r.place) r.memory) is
+
+    abbrev size : ℕ
+    size = first_count r.memory b q
+
+    abbrev drawing : Next
+    drawing = Act (actions.Draw (8 * drawn_count size (8 * words))) i.line i.function
+
+    fill_is_next : words < word_count size → drawing ≡ goes_on_with words r []
+    fill_is_next more = sym (λ k. (with_fill ∙ word_left behaving 0 i.line i.function b q (behind r.strict r.code r.place) r.memory words more) k [])
+
+    fill_acts : words < word_count size → acts words (slice_get r.code.instructions r.place) r.memory ≡ true
+    fill_acts more = ap (λ x. acts words x r.memory) found ∙ ap (λ o. acts_on words o r.memory) is ∙ holds_below words (word_count size) more
+
+    pub fill_goes_on : word_count size ≤ words → GoesOnWith words r (record r { place = r.place + 1 + 0 }) None
+    fill_goes_on past = (
+      sym (with_fill ∙ nothing_left behaving 0 i.line i.function b q (behind r.strict r.code r.place) r.memory words past ∙ go_on r.strict r.code r.place 0 r.memory),
+      refl,
+      refl,
+      refl,
+    )
+
+    pub fill_draws_on : words < word_count size → GoesOnWith words r r (Some drawing)
+    fill_draws_on more = (refl, fill_is_next more, λ act. fill_acts more)
+
+    pub fill_more : acts words (slice_get r.code.instructions r.place) r.memory ≡ true → words < word_count size
+    fill_more act = test_below words (word_count size) (sym (ap (λ x. acts words x r.memory) found ∙ ap (λ o. acts_on words o r.memory) is) ∙ act)
+
+  pub begin_goes : (b q : ℕ) → Is (operations.Fill b q) → word_count (first_count r.memory b q) ≤ 0 → GoesOn r (record r { place = r.place + 1 + 0 })
+  begin_goes b q is past = goes 0 r.memory (ap operated is ∙ nothing_left behaving 0 i.line i.function b q (behind r.strict r.code r.place) r.memory 0 past) (omega arith)
+
+  pub begin_stops : (b q : ℕ) → Is (operations.Fill b q) → 0 < word_count (first_count r.memory b q) → Stops r r (Act (actions.Draw (8 * drawn_count (first_count r.memory b q) (8 * 0))) i.line i.function)
+  begin_stops b q is more = record { unchanged = refl; next_is = fill_is_next b q is 0 more; acting = λ act. fill_acts b q is 0 more }
+
+  -- the next word, or what comes behind
+  abbrev pub Fills : (b q words : ℕ) (new : Running) → Option Next → Type 0
+  Fills b q words new result =
+      MatchOption result ((word_count (first_count r.memory b q) ≤ words) × (new ≡ record r { place = r.place + 1 + 0 }))
+      (λ n. (words < word_count (first_count r.memory b q)) × (n ≡ Act (actions.Draw (8 * drawn_count (first_count r.memory b q) (8 * words))) i.line i.function) × (new ≡ r))
+
+  pub fill_begins : (b q : ℕ) → Is (operations.Fill b q) → (new : Running) (result : Option Next) → Fills b q 0 new result → Steps r new result
+  fill_begins b q is new None h = subst (λ (x : Running). GoesOn r x) (sym h.1) (begin_goes b q is h.0)
+  fill_begins b q is new (Some n) h =
+      subst (λ (x : Running). Stops r x n) (sym h.2) (subst (λ (k : Next). Stops r r k) (sym h.1) (begin_stops b q is h.0))
+
+  pub fill_goes_with : (b q words : ℕ) → Is (operations.Fill b q) → (new : Running) (result : Option Next) → Fills b q words new result → GoesOnWith words r new result
+  fill_goes_with b q words is new None h = subst (λ (x : Running). GoesOnWith words r x None) (sym h.1) (fill_goes_on b q is words h.0)
+  fill_goes_with b q words is new (Some n) h =
+      subst (λ (x : Running). GoesOnWith words r x (Some n)) (sym h.2) (subst (λ (k : Next). GoesOnWith words r r (Some k)) (sym h.1) (fill_draws_on b q is words h.0))
+
+  pub others_go_on : (words : ℕ) → is_fill i.operation ≡ false → GoesOnWith words r r None
+  others_go_on words h = (
+    at_place r.strict r.code r.place i r.memory found ∙ sym (on_other behaving r.strict 0 i.line i.function (behind r.strict r.code r.place) r.memory words i.operation h) ∙ sym (with_words words),
+    refl,
+    refl,
+    refl,
+  )
 
   pub stops_exit : Is operations.Exit → Stops r r (Act actions.Exit i.line i.function)
   stops_exit is = record {
     unchanged = refl;
     next_is = sym (λ k. (at_place r.strict r.code r.place i r.memory found ∙ ap operated is) k []);
-    acting = λ act. ap acts found ∙ ap is_action is;
+    acting = λ act. ap (λ x. acts 0 x r.memory) found ∙ ap (λ o. acts_on 0 o r.memory) is;
   }
 
 -- ---- what an instruction's operation asks of the code
@@ -349,126 +507,86 @@ stops_behind r none = record {
   acting = λ act. absurd (false≢true act);
 }
 
-draw_parts : (r : Running) (i : Instruction) (q bits : ℕ) → slice_get r.code.instructions r.place ≡ Some i → code_fits r.code.registers r.code.blocks r.code.instructions ≡ true → i.operation ≡ operations.Draw q bits
-    → (is_there r.code.registers q ≡ true) × (1 ≤ bits) × (bits ≤ width (slice_index_or r.code.registers q types.Int))
-draw_parts r i q bits found code is =
-    let k = length (drop (r.place + 1) r.code.instructions) in
-    let w = width (slice_index_or r.code.registers q types.Int) in
-    let parts = both (is_there r.code.registers q && nat_le 1 bits) (nat_le bits w) (subst (λ o. operation_fits r.code.registers r.code.blocks k o ≡ true) is (fits_at r.code.registers r.code.blocks r.code.instructions r.place i code found)) in
-    let more = both (is_there r.code.registers q) (nat_le 1 bits) parts.0 in
-    (more.0, test_within 1 bits more.1, test_within bits w parts.1)
-
-pub draw_into : (r : Running) (i : Instruction) (q bits : ℕ) → slice_get r.code.instructions r.place ≡ Some i → code_fits r.code.registers r.code.blocks r.code.instructions ≡ true → i.operation ≡ operations.Draw q bits → is_there r.code.registers q ≡ true
-draw_into r i q bits found code is = (draw_parts r i q bits found code is).0
-
-pub draw_here : (r : Running) (i : Instruction) (q bits : ℕ) → slice_get r.code.instructions r.place ≡ Some i → code_fits r.code.registers r.code.blocks r.code.instructions ≡ true → i.operation ≡ operations.Draw q bits → 1 ≤ bits
-draw_here r i q bits found code is = (draw_parts r i q bits found code is).1
-
-pub draw_width : (r : Running) (i : Instruction) (q bits : ℕ) → slice_get r.code.instructions r.place ≡ Some i → code_fits r.code.registers r.code.blocks r.code.instructions ≡ true → i.operation ≡ operations.Draw q bits → bits ≤ width (slice_index_or r.code.registers q types.Int)
-draw_width r i q bits found code is = (draw_parts r i q bits found code is).2
-
-pub draw_most : (r : Running) (i : Instruction) (q bits : ℕ) → slice_get r.code.instructions r.place ≡ Some i → code_fits r.code.registers r.code.blocks r.code.instructions ≡ true → i.operation ≡ operations.Draw q bits → bits ≤ 64
-draw_most r i q bits found code is = omega (arith, draw_width r i q bits found code is, at_most_64 (slice_index_or r.code.registers q types.Int))
-
--- ---- accesses to static objects
-
-pub read_here : (r : Running) (i : Instruction) (b to k offset count : ℕ) → slice_get r.code.instructions r.place ≡ Some i → code_fits r.code.registers r.code.blocks r.code.instructions ≡ true → i.operation ≡ operations.ReadObject b to k offset count → is_within r.code.blocks b to count ≡ true
-read_here r i b to k offset count found code is =
+-- what the operation of an instruction asks of the code
+fits_as : (r : Running) (i : Instruction) (o : Operation) → slice_get r.code.instructions r.place ≡ Some i → code_fits r.code.registers r.code.blocks r.code.instructions ≡ true → i.operation ≡ o
+    → operation_fits r.code.registers r.code.blocks (length (drop (r.place + 1) r.code.instructions)) o ≡ true
+fits_as r i o found code is =
     let n = length (drop (r.place + 1) r.code.instructions) in
-    subst (λ o. operation_fits r.code.registers r.code.blocks n o ≡ true) is (fits_at r.code.registers r.code.blocks r.code.instructions r.place i code found)
+    subst (λ p. operation_fits r.code.registers r.code.blocks n p ≡ true) is (fits_at r.code.registers r.code.blocks r.code.instructions r.place i code found)
 
-pub write_here : (r : Running) (i : Instruction) (k offset b from count : ℕ) → slice_get r.code.instructions r.place ≡ Some i → code_fits r.code.registers r.code.blocks r.code.instructions ≡ true → i.operation ≡ operations.WriteObject k offset b from count → is_within r.code.blocks b from count ≡ true
-write_here r i k offset b from count found code is =
-    let n = length (drop (r.place + 1) r.code.instructions) in
-    subst (λ o. operation_fits r.code.registers r.code.blocks n o ≡ true) is (fits_at r.code.registers r.code.blocks r.code.instructions r.place i code found)
+pub exchange_here : (r : Running) (i : Instruction) → slice_get r.code.instructions r.place ≡ Some i → code_fits r.code.registers r.code.blocks r.code.instructions ≡ true → is_exchange i.operation ≡ true
+    → operation_fits r.code.registers r.code.blocks 0 i.operation ≡ true
+exchange_here r i found code h =
+    exchange_fits r.code.registers r.code.blocks (length (drop (r.place + 1) r.code.instructions)) i.operation h
+    (fits_at r.code.registers r.code.blocks r.code.instructions r.place i code found)
 
-same_count : (m n : ℕ) → (m == n) ≡ true → m ≡ n
-same_count m n h = grind (arith, nat_tests)
+pub fill_here : (r : Running) (i : Instruction) (b q : ℕ) → slice_get r.code.instructions r.place ≡ Some i → code_fits r.code.registers r.code.blocks r.code.instructions ≡ true → i.operation ≡ operations.Fill b q
+    → nat_lt b (length r.code.blocks) ≡ true
+fill_here r i b q found code is = (both (nat_lt b (length r.code.blocks)) (is_pointer r.code.registers q) (fits_as r i (operations.Fill b q) found code is)).0
 
--- an answer to a read of so many bytes has as many
-pub read_size : (p n : ℕ) (a : Answer) → has_shape (shape_of (actions.Read p n)) a ≡ true → length (bytes_in a) ≡ n
-read_size p n (answers.Bytes bs) h = same_count (length bs) n (both (length bs == n) (are_bytes bs) h).0
-read_size p n answers.Done h = absurd (false≢true h)
-read_size p n (answers.Word w) h = absurd (false≢true h)
-read_size p n (answers.Size m) h = absurd (false≢true h)
-read_size p n (answers.Number m) h = absurd (false≢true h)
-read_size p n (answers.Value v) h = absurd (false≢true h)
+pub fill_count_here : (r : Running) (i : Instruction) (b q : ℕ) → slice_get r.code.instructions r.place ≡ Some i → code_fits r.code.registers r.code.blocks r.code.instructions ≡ true → i.operation ≡ operations.Fill b q
+    → is_pointer r.code.registers q ≡ true
+fill_count_here r i b q found code is = (both (nat_lt b (length r.code.blocks)) (is_pointer r.code.registers q) (fits_as r i (operations.Fill b q) found code is)).1
 
 -- ---- answers
 
 taken : (action : Action) (line f : ℕ) (follows : Answer → Behaviour) (a : Answer) (b : Bool) → has_shape (shape_of action) a ≡ b → b ≡ true → (λ answers. ask action line f follows (a ∷ answers)) ≡ follows a
 taken action line f follows a b same holds = λ k answers. if (same ∙ holds) k then follows a answers else Blocked
 
-module _ (r : Running) (i : Instruction) (found : slice_get r.code.instructions r.place ≡ Some i) (a : Answer) (fits : accepts ((thread_of r).behaves []) a ≡ true) where
-  behaves_as : (o : Operation) → i.operation ≡ o → (thread_of r).behaves ≡ operates behaving r.strict 0 i.line i.function o (behind r.strict r.code r.place) r.memory
-  behaves_as o is =
-      at_place r.strict r.code r.place i r.memory found
-      ∙ ap (λ q. operates behaving r.strict 0 i.line i.function q (behind r.strict r.code r.place) r.memory) is
+module _ (r : Running) (i : Instruction) (found : slice_get r.code.instructions r.place ≡ Some i) (a : Answer) (words : ℕ) (fits : accepts (goes_on_with words r []) a ≡ true) where
+  abbrev now : Flowing
+  now = record { runner = r; words = words }
 
-  pub shape_of_draw : (q bits : ℕ) → i.operation ≡ operations.Draw q bits → has_shape (shape_of (actions.Draw bits)) a ≡ true
-  shape_of_draw q bits is = subst (λ (b : Behaviour). accepts (b []) a ≡ true) (behaves_as (operations.Draw q bits) is) fits
+  abbrev follows : Answer → Behaviour
+  follows x = at behaving (behind r.strict r.code r.place) 0 (answered_with i.operation r.memory x)
 
-  pub shape_of_read : (b to k offset count : ℕ) → i.operation ≡ operations.ReadObject b to k offset count → has_shape (shape_of (actions.Read (pointer_to k offset) count)) a ≡ true
-  shape_of_read b to k offset count is = subst (λ (x : Behaviour). accepts (x []) a ≡ true) (behaves_as (operations.ReadObject b to k offset count) is) fits
+  with_exchange : is_exchange i.operation ≡ true → goes_on_with words r ≡ ask (action_of i.operation r.memory) i.line i.function follows
+  with_exchange h =
+      with_words r i found words
+      ∙ on_other behaving r.strict 0 i.line i.function (behind r.strict r.code r.place) r.memory words i.operation (exchange_single i.operation h)
+      ∙ exchanges behaving r.strict 0 i.line i.function (behind r.strict r.code r.place) r.memory i.operation h
 
-  shape_of_write : (k offset b from count : ℕ) → i.operation ≡ operations.WriteObject k offset b from count → has_shape (shape_of (actions.Write (pointer_to k offset) (bytes_of r.memory.blocks b from count) false)) a ≡ true
-  shape_of_write k offset b from count is = subst (λ (x : Behaviour). accepts (x []) a ≡ true) (behaves_as (operations.WriteObject k offset b from count) is) fits
+  pub shape_of_exchange : is_exchange i.operation ≡ true → has_shape (shape_of (action_of i.operation r.memory)) a ≡ true
+  shape_of_exchange h = subst (λ (b : Behaviour). accepts (b []) a ≡ true) (with_exchange h) fits
 
-  pub takes_read : (b to k offset count : ℕ) → i.operation ≡ operations.ReadObject b to k offset count
-      → thread_of (record r { place = r.place + 1 + 0; memory = with_blocks r.memory (put_bytes r.memory.blocks b to (bytes_in a)) }) ≡ answered (thread_of r) a
-  takes_read b to k offset count is =
-      let m = with_blocks r.memory (put_bytes r.memory.blocks b to (bytes_in a)) in
-      let follows = λ (x : Answer). at behaving (behind r.strict r.code r.place) 0 (with_blocks r.memory (put_bytes r.memory.blocks b to (bytes_in x))) in
-      let later : runs r.strict r.code (r.place + 1 + 0) m ≡ after (thread_of r).behaves a =
-      sym (go_on r.strict r.code r.place 0 m)
-      ∙ sym (taken (actions.Read (pointer_to k offset) count) i.line i.function follows a true (shape_of_read b to k offset count is) refl)
-      ∙ ap (λ (x : Behaviour). after x a) (sym (behaves_as (operations.ReadObject b to k offset count) is)) in
+  pub takes_exchange : is_exchange i.operation ≡ true → flow_thread (record { runner = record r { place = r.place + 1 + 0; memory = answered_with i.operation r.memory a }; words = 0 }) ≡ answered (flow_thread now) a
+  takes_exchange h =
+      let later : runs r.strict r.code (r.place + 1 + 0) (answered_with i.operation r.memory a) ≡ after (goes_on_with words r) a =
+      sym (go_on r.strict r.code r.place 0 (answered_with i.operation r.memory a))
+      ∙ sym (taken (action_of i.operation r.memory) i.line i.function follows a true (shape_of_exchange h) refl)
+      ∙ ap (λ (b : Behaviour). after b a) (sym (with_exchange h)) in
       λ k. record { behaves = later k; program = code_program r.strict r.functions }
 
-  pub takes_write : (k offset b from count : ℕ) → i.operation ≡ operations.WriteObject k offset b from count → thread_of (record r { place = r.place + 1 + 0 }) ≡ answered (thread_of r) a
-  takes_write k offset b from count is =
-      let follows = λ (x : Answer). at behaving (behind r.strict r.code r.place) 0 r.memory in
-      let later : runs r.strict r.code (r.place + 1 + 0) r.memory ≡ after (thread_of r).behaves a =
-      sym (go_on r.strict r.code r.place 0 r.memory)
-      ∙ sym (taken (actions.Write (pointer_to k offset) (bytes_of r.memory.blocks b from count) false) i.line i.function follows a true (shape_of_write k offset b from count is) refl)
-      ∙ ap (λ (x : Behaviour). after x a) (sym (behaves_as (operations.WriteObject k offset b from count) is)) in
-      λ k. record { behaves = later k; program = code_program r.strict r.functions }
+  with_exit : i.operation ≡ operations.Exit → goes_on_with words r ≡ ask actions.Exit i.line i.function (λ x. final (Ended (word_64 0)))
+  with_exit is = with_words r i found words ∙ ap (λ o. operates_on behaving words r.strict 0 i.line i.function o (behind r.strict r.code r.place) r.memory) is
 
-  shape_of_exit : i.operation ≡ operations.Exit → has_shape (shape_of actions.Exit) a ≡ true
-  shape_of_exit is = subst (λ (b : Behaviour). accepts (b []) a ≡ true) (behaves_as operations.Exit is) fits
-
-  pub takes_draw : (q bits : ℕ) → i.operation ≡ operations.Draw q bits → thread_of (record r { place = r.place + 1 + 0; memory = with_register r.memory q (word_of a) }) ≡ answered (thread_of r) a
-  takes_draw q bits is =
-      let m = with_register r.memory q (word_of a) in
-      let follows = λ (x : Answer). at behaving (behind r.strict r.code r.place) 0 (with_register r.memory q (word_of x)) in
-      let later : runs r.strict r.code (r.place + 1 + 0) m ≡ after (thread_of r).behaves a =
-      sym (go_on r.strict r.code r.place 0 m)
-      ∙ sym (taken (actions.Draw bits) i.line i.function follows a true (shape_of_draw q bits is) refl)
-      ∙ ap (λ (b : Behaviour). after b a) (sym (behaves_as (operations.Draw q bits) is)) in
-      λ k. record { behaves = later k; program = code_program r.strict r.functions }
-
-  pub takes_exit : i.operation ≡ operations.Exit → thread_of (record r { place = length r.code.instructions }) ≡ answered (thread_of r) a
+  pub takes_exit : i.operation ≡ operations.Exit → flow_thread (record { runner = record r { place = length r.code.instructions }; words = 0 }) ≡ answered (flow_thread now) a
   takes_exit is =
       let xs = r.code.instructions in
-      let follows = λ (x : Answer). final (Ended (word_64 0)) in
-      let later : runs r.strict r.code (length xs) r.memory ≡ after (thread_of r).behaves a =
+      let shape : has_shape (shape_of actions.Exit) a ≡ true = subst (λ (b : Behaviour). accepts (b []) a ≡ true) (with_exit is) fits in
+      let later : runs r.strict r.code (length xs) r.memory ≡ after (goes_on_with words r) a =
       numbered r.strict r.code (length xs) r.memory
       ∙ ap (λ ys. at behaving (places behaving r.strict 0 ys) 0 r.memory) (drop_all (length xs) xs (omega arith))
-      ∙ sym (taken actions.Exit i.line i.function follows a true (shape_of_exit is) refl)
-      ∙ ap (λ (b : Behaviour). after b a) (sym (behaves_as operations.Exit is)) in
+      ∙ sym (taken actions.Exit i.line i.function (λ x. final (Ended (word_64 0))) a true shape refl)
+      ∙ ap (λ (b : Behaviour). after b a) (sym (with_exit is)) in
       λ k. record { behaves = later k; program = code_program r.strict r.functions }
 
--- the word of a draw fits its register
-pub word_fits : (r : Running) (i : Instruction) (q bits : ℕ) (a : Answer) → slice_get r.code.instructions r.place ≡ Some i → code_fits r.code.registers r.code.blocks r.code.instructions ≡ true → i.operation ≡ operations.Draw q bits
-    → has_shape (shape_of (actions.Draw bits)) a ≡ true → word_of a < 2 ^ width (slice_index_or r.code.registers q types.Int)
-word_fits r i q bits (answers.Word w) found code is shape =
-    let below : w.bits < 2 ^ bits = test_below w.bits (2 ^ bits) (both (w.width == bits) (nat_lt w.bits (2 ^ bits)) shape).1 in
-    omega (arith, below, pow_grows bits (width (slice_index_or r.code.registers q types.Int)) (draw_width r i q bits found code is))
-word_fits r i q bits answers.Done found code is shape = absurd (false≢true shape)
-word_fits r i q bits (answers.Bytes bs) found code is shape = absurd (false≢true shape)
-word_fits r i q bits (answers.Size n) found code is shape = absurd (false≢true shape)
-word_fits r i q bits (answers.Number n) found code is shape = absurd (false≢true shape)
-word_fits r i q bits (answers.Value v) found code is shape = absurd (false≢true shape)
+  pub takes_word : (b q : ℕ) → i.operation ≡ operations.Fill b q → words < word_count (first_count r.memory b q)
+      → (let m = word_taken r.memory b (first_count r.memory b q) words a in first_count m b q ≡ first_count r.memory b q
+      → flow_thread (record { runner = record r { memory = m }; words = words + 1 }) ≡ answered (flow_thread now) a)
+  takes_word b q is more same =
+      let size = first_count r.memory b q in
+      let m = word_taken r.memory b size words a in
+      let ps = behind r.strict r.code r.place in
+      let onward = λ (x : Answer). fills behaving (word_count size - (words + 1)) 0 i.line i.function b size (8 * words + 8) ps (word_taken r.memory b size words x) in
+      let whole = with_fill r i found b q is words ∙ word_left behaving 0 i.line i.function b q ps r.memory words more in
+      let shape : has_shape (shape_of (actions.Draw (8 * drawn_count size (8 * words)))) a ≡ true = subst (λ (b : Behaviour). accepts (b []) a ≡ true) whole fits in
+      let later : goes_on_with (words + 1) (record r { memory = m }) ≡ after (goes_on_with words r) a =
+      with_fill (record r { memory = m }) i found b q is (words + 1)
+      ∙ sym (words_behind behaving 0 i.line i.function b q ps r.memory words m same)
+      ∙ sym (taken (actions.Draw (8 * drawn_count size (8 * words))) i.line i.function onward a true shape refl)
+      ∙ ap (λ (b : Behaviour). after b a) (sym whole) in
+      λ k. record { behaves = later k; program = code_program r.strict r.functions }
 
 -- only an action takes an answer
 pub act_accepts : (next : Next) (a : Answer) → accepts next a ≡ true → is_act next ≡ true
@@ -476,3 +594,23 @@ act_accepts (Act action line f) a h = refl
 act_accepts (Ended v) a h = absurd (false≢true h)
 act_accepts Blocked a h = absurd (false≢true h)
 act_accepts (Broken class line f) a h = absurd (false≢true h)
+
+-- ---- steps of a flow
+
+pub flow_goes : (words : ℕ) (old new : Running) (result : Option Next) → GoesOnWith words old new result → result ≡ None → flow_thread (record { runner = new; words = 0 }) ≡ flow_thread (record { runner = old; words = words })
+flow_goes words old new None h none = λ k. record { behaves = h.0 k; program = code_program (h.2 k) (h.3 k) }
+flow_goes words old new (Some n) h none = absurd (none-some n (sym none))
+
+with_next : (words : ℕ) (old new : Running) (result : Option Next) (n : Next) → GoesOnWith words old new result → result ≡ Some n → GoesOnWith words old new (Some n)
+with_next words old new result n h some = subst (λ (r : Option Next). GoesOnWith words old new r) some h
+
+pub flow_stays : (words : ℕ) (old new : Running) (result : Option Next) (n : Next) → GoesOnWith words old new result → result ≡ Some n → flow_thread (record { runner = new; words = words }) ≡ flow_thread (record { runner = old; words = words })
+flow_stays words old new result n h some = ap (λ (r : Running). flow_thread (record { runner = r; words = words })) (with_next words old new result n h some).0
+
+pub flow_next : (words : ℕ) (old new : Running) (result : Option Next) (n : Next) → GoesOnWith words old new result → result ≡ Some n → n ≡ goes_on_with words old []
+flow_next words old new result n h some = (with_next words old new result n h some).1
+
+pub flow_acts : (words : ℕ) (old new : Running) (result : Option Next) (n : Next) → GoesOnWith words old new result → result ≡ Some n → is_act n ≡ true → acts words (slice_get new.code.instructions new.place) new.memory ≡ true
+flow_acts words old new result n h some act =
+    let g = with_next words old new result n h some in
+    subst (λ (r : Running). acts words (slice_get r.code.instructions r.place) r.memory ≡ true) (sym g.0) (g.2 act)

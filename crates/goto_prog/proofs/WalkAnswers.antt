@@ -1,99 +1,74 @@
 -- Answers to the actions of a function.
-use Rattle.std.proofs.Common.{◌≡◌, ℕ, ◌<◌, ◌≤◌, ◌^◌, Bool, true, false, List, [], ◌∷◌, length, Some, refl, sym, ap, ◌∙◌, subst, arith}
-use Rattle.std.specs.Prelude.{if◌then◌else◌, slice_index_or, ◌==◌, nat_lt}
-use Rattle.std.proofs.lemmas.Bool.{false≢true}
-use Rattle.c_types.specs.declared.integers.IntegerType.{IntegerType}
-use Rattle.c_types.specs.declared.integers.IntegerType.TheVariants as types
-use Rattle.c_types.specs.Integers.{width}
-use Rattle.core_tree.specs.Typed.{is_within}
-use Rattle.c_values.specs.Variables.{pointer_to, put_bytes}
+use Rattle.std.proofs.Common.{◌≡◌, ℕ, ◌+◌, ◌-◌, ◌*◌, ◌<◌, Bool, true, List, [], ◌∷◌, Some, refl, sym, ap, ◌∙◌, subst}
+use Rattle.std.specs.Prelude.{if◌then◌else◌}
+use Rattle.c_values.specs.Variables.{word_count, drawn_count}
 use Rattle.actions.specs.declared.action.Action.{Action}
 use Rattle.actions.specs.declared.action.Action.TheVariants as actions
 use Rattle.actions.specs.declared.action.Answer.{Answer}
-use Rattle.actions.specs.declared.action.Answer.TheVariants as answers
 use Rattle.actions.specs.declared.action.Next.TheVariants.{Ended, Blocked}
 use Rattle.actions.specs.Behaviour.{Behaviour, word_64, accepts, has_shape, shape_of, after}
-use Rattle.words.proofs.Powers.{pow_grows}
 use Rattle.goto_prog.specs.declared.code.Instruction.{Instruction}
-use Rattle.goto_prog.specs.declared.code.Operation.{Operation}
 use Rattle.goto_prog.specs.declared.code.Operation.TheVariants as operations
-use Rattle.goto_prog.specs.Meaning.{Memory, Given, word_of, bytes_in, with_register, with_blocks, bytes_of, at, operates}
+use Rattle.goto_prog.specs.Meaning.{Memory, Given, first_count, action_of, answered_with, at, fills, operates_on}
 use Rattle.goto_prog.specs.Threads.{Calls, acting, final, ask}
-use Rattle.goto_prog.specs.Fitting.{operation_fits}
+use Rattle.goto_prog.specs.Running.{is_exchange}
 use Rattle.goto_prog.specs.Structured.{Bounded}
-use Rattle.goto_prog.specs.Walking.{next_place, landed, place_total, places_from, Activation, does, instruction_at, lone}
-use Rattle.goto_prog.proofs.Registers.{both, test_below}
-use Rattle.goto_prog.proofs.Stepping.{read_size}
-use Rattle.goto_prog.proofs.Places.{at_instruction}
-use Rattle.goto_prog.proofs.WalkFits as fits
+use Rattle.goto_prog.specs.Walking.{next_place, landed, places_from, Activation, does, does_on, next_instruction, lone_on}
+use Rattle.goto_prog.proofs.Exchanges.{exchanges, on_other, exchange_single, word_taken, word_left, words_behind}
+use Rattle.goto_prog.proofs.WalkSteps.{with_words, with_fill}
 
 taken : (action : Action) (line f : ℕ) (follows : Answer → Behaviour) (a : Answer) (t : Bool) → has_shape (shape_of action) a ≡ t → t ≡ true → (λ answers. ask action line f follows (a ∷ answers)) ≡ follows a
 taken action line f follows a t same holds = λ k answers. if (same ∙ holds) k then follows a answers else Blocked
 
-module _ (b : Bounded) (a : Activation) (i : Instruction) (found : instruction_at a.place.nodes ≡ Some i) (x : Answer) (allowed : accepts (lone b a []) x ≡ true) where
-  abbrev operated : Calls → (Given → Behaviour) → Operation → Behaviour
-  operated calls hands o = operates (acting calls hands) b.strict 0 i.line i.function o (places_from b (acting calls hands) (next_place a.place)) a.working.memory
+module _ (b : Bounded) (a : Activation) (i : Instruction) (found : next_instruction b a.place.nodes ≡ Some i) (x : Answer) (words : ℕ) (allowed : accepts (lone_on b words a []) x ≡ true) where
+  abbrev behind : Calls → (Given → Behaviour) → List (Memory → Behaviour)
+  behind calls hands = places_from b (acting calls hands) (next_place a.place)
 
-  does_as : (calls : Calls) (hands : Given → Behaviour) (o : Operation) → i.operation ≡ o → does b calls hands a ≡ operated calls hands o
-  does_as calls hands o is = at_instruction b (acting calls hands) a.place i a.working.memory found ∙ ap (operated calls hands) is
+  abbrev follows : Calls → (Given → Behaviour) → Answer → Behaviour
+  follows calls hands y = at (acting calls hands) (behind calls hands) 0 (answered_with i.operation a.working.memory y)
 
-  shape_by : (o : Operation) → i.operation ≡ o → accepts (operated (λ caller f line arguments follows. final Blocked) (λ given. final Blocked) o []) x ≡ true
-  shape_by o is = subst (λ (y : Behaviour). accepts (y []) x ≡ true) (does_as (λ caller f line arguments follows. final Blocked) (λ given. final Blocked) o is) allowed
+  with_exchange : is_exchange i.operation ≡ true → (calls : Calls) (hands : Given → Behaviour) → does_on b calls hands words a ≡ ask (action_of i.operation a.working.memory) i.line i.function (follows calls hands)
+  with_exchange h calls hands =
+      with_words b a i found words calls hands
+      ∙ on_other (acting calls hands) b.strict 0 i.line i.function (behind calls hands) a.working.memory words i.operation (exchange_single i.operation h)
+      ∙ exchanges (acting calls hands) b.strict 0 i.line i.function (behind calls hands) a.working.memory i.operation h
 
-  pub shape_of_draw : (q bits : ℕ) → i.operation ≡ operations.Draw q bits → has_shape (shape_of (actions.Draw bits)) x ≡ true
-  shape_of_draw q bits is = shape_by (operations.Draw q bits) is
+  pub shape_of_exchange : is_exchange i.operation ≡ true → has_shape (shape_of (action_of i.operation a.working.memory)) x ≡ true
+  shape_of_exchange h = subst (λ (y : Behaviour). accepts (y []) x ≡ true) (with_exchange h (λ caller f line arguments follows. final Blocked) (λ given. final Blocked)) allowed
 
-  pub shape_of_read : (k to object offset count : ℕ) → i.operation ≡ operations.ReadObject k to object offset count → has_shape (shape_of (actions.Read (pointer_to object offset) count)) x ≡ true
-  shape_of_read k to object offset count is = shape_by (operations.ReadObject k to object offset count) is
+  pub takes_exchange : is_exchange i.operation ≡ true
+      → (calls : Calls) (hands : Given → Behaviour) → does b calls hands (record { place = landed 0 (next_place a.place); working = record a.working { memory = answered_with i.operation a.working.memory x } }) ≡ after (does_on b calls hands words a) x
+  takes_exchange h calls hands =
+      sym (taken (action_of i.operation a.working.memory) i.line i.function (follows calls hands) x true (shape_of_exchange h) refl)
+      ∙ ap (λ (y : Behaviour). after y x) (sym (with_exchange h calls hands))
 
-  shape_of_write : (object offset k from count : ℕ) → i.operation ≡ operations.WriteObject object offset k from count → has_shape (shape_of (actions.Write (pointer_to object offset) (bytes_of a.working.memory.blocks k from count) false)) x ≡ true
-  shape_of_write object offset k from count is = shape_by (operations.WriteObject object offset k from count) is
+  with_exit : i.operation ≡ operations.Exit → (calls : Calls) (hands : Given → Behaviour) → does_on b calls hands words a ≡ ask actions.Exit i.line i.function (λ y. final (Ended (word_64 0)))
+  with_exit is calls hands =
+      with_words b a i found words calls hands ∙ ap (λ o. operates_on (acting calls hands) words b.strict 0 i.line i.function o (behind calls hands) a.working.memory) is
 
-  shape_of_exit : i.operation ≡ operations.Exit → has_shape (shape_of actions.Exit) x ≡ true
-  shape_of_exit is = shape_by operations.Exit is
-
-  abbrev Takes : Activation → Type 0
-  Takes new = (calls : Calls) (hands : Given → Behaviour) → does b calls hands new ≡ after (does b calls hands a) x
-
-  pub takes_draw : (q bits : ℕ) → i.operation ≡ operations.Draw q bits → Takes (record { place = landed 0 (next_place a.place); working = record a.working { memory = with_register a.working.memory q (word_of x) } })
-  takes_draw q bits is calls hands =
-      let follows = λ (y : Answer). at (acting calls hands) (places_from b (acting calls hands) (next_place a.place)) 0 (with_register a.working.memory q (word_of y)) in
-      sym (taken (actions.Draw bits) i.line i.function follows x true (shape_of_draw q bits is) refl)
-      ∙ ap (λ (y : Behaviour). after y x) (sym (does_as calls hands (operations.Draw q bits) is))
-
-  pub takes_read : (k to object offset count : ℕ) → i.operation ≡ operations.ReadObject k to object offset count
-      → Takes (record { place = landed 0 (next_place a.place); working = record a.working { memory = with_blocks a.working.memory (put_bytes a.working.memory.blocks k to (bytes_in x)) } })
-  takes_read k to object offset count is calls hands =
-      let follows = λ (y : Answer). at (acting calls hands) (places_from b (acting calls hands) (next_place a.place)) 0 (with_blocks a.working.memory (put_bytes a.working.memory.blocks k to (bytes_in y))) in
-      sym (taken (actions.Read (pointer_to object offset) count) i.line i.function follows x true (shape_of_read k to object offset count is) refl)
-      ∙ ap (λ (y : Behaviour). after y x) (sym (does_as calls hands (operations.ReadObject k to object offset count) is))
-
-  pub takes_write : (object offset k from count : ℕ) → i.operation ≡ operations.WriteObject object offset k from count → Takes (record a { place = landed 0 (next_place a.place) })
-  takes_write object offset k from count is calls hands =
-      let follows = λ (y : Answer). at (acting calls hands) (places_from b (acting calls hands) (next_place a.place)) 0 a.working.memory in
-      sym (taken (actions.Write (pointer_to object offset) (bytes_of a.working.memory.blocks k from count) false) i.line i.function follows x true (shape_of_write object offset k from count is) refl)
-      ∙ ap (λ (y : Behaviour). after y x) (sym (does_as calls hands (operations.WriteObject object offset k from count) is))
-
-  pub takes_exit : i.operation ≡ operations.Exit → (calls : Calls) (hands : Given → Behaviour) → final (Ended (word_64 0)) ≡ after (does b calls hands a) x
+  pub takes_exit : i.operation ≡ operations.Exit → (calls : Calls) (hands : Given → Behaviour) → final (Ended (word_64 0)) ≡ after (does_on b calls hands words a) x
   takes_exit is calls hands =
-      let follows = λ (y : Answer). final (Ended (word_64 0)) in
-      sym (taken actions.Exit i.line i.function follows x true (shape_of_exit is) refl)
-      ∙ ap (λ (y : Behaviour). after y x) (sym (does_as calls hands operations.Exit is))
+      let shape : has_shape (shape_of actions.Exit) x ≡ true = subst (λ (y : Behaviour). accepts (y []) x ≡ true) (with_exit is (λ caller f line arguments follows. final Blocked) (λ given. final Blocked)) allowed in
+      sym (taken actions.Exit i.line i.function (λ y. final (Ended (word_64 0))) x true shape refl)
+      ∙ ap (λ (y : Behaviour). after y x) (sym (with_exit is calls hands))
 
--- the word of a draw fits its register
-pub word_fits : (ts : List IntegerType) (ss : List ℕ) (k : ℕ) (o : Operation) (q bits : ℕ) (a : Answer) → operation_fits ts ss k o ≡ true → o ≡ operations.Draw q bits → has_shape (shape_of (actions.Draw bits)) a ≡ true
-    → word_of a < 2 ^ width (slice_index_or ts q types.Int)
-word_fits ts ss k o q bits (answers.Word w) here is shape =
-    let below : w.bits < 2 ^ bits = test_below w.bits (2 ^ bits) (both (w.width == bits) (nat_lt w.bits (2 ^ bits)) shape).1 in
-    omega (arith, below, pow_grows bits (width (slice_index_or ts q types.Int)) (fits.draw_width ts ss k o here q bits is))
-word_fits ts ss k o q bits answers.Done here is shape = absurd (false≢true shape)
-word_fits ts ss k o q bits (answers.Bytes bs) here is shape = absurd (false≢true shape)
-word_fits ts ss k o q bits (answers.Size n) here is shape = absurd (false≢true shape)
-word_fits ts ss k o q bits (answers.Number n) here is shape = absurd (false≢true shape)
-word_fits ts ss k o q bits (answers.Value v) here is shape = absurd (false≢true shape)
+  module _ (k q : ℕ) (is : i.operation ≡ operations.Fill k q) (more : words < word_count (first_count a.working.memory k q)) where
+    abbrev size : ℕ
+    size = first_count a.working.memory k q
 
--- the bytes of a read fit their block
-pub bytes_fit : (ts : List IntegerType) (ss : List ℕ) (k : ℕ) (o : Operation) (c to object offset count : ℕ) (a : Answer) → operation_fits ts ss k o ≡ true → o ≡ operations.ReadObject c to object offset count
-    → has_shape (shape_of (actions.Read (pointer_to object offset) count)) a ≡ true → is_within ss c to (length (bytes_in a)) ≡ true
-bytes_fit ts ss k o c to object offset count a here is shape =
-    subst (λ n. is_within ss c to n ≡ true) (sym (read_size (pointer_to object offset) count a shape)) (fits.read_here ts ss k o here c to object offset count is)
+    abbrev onward : Calls → (Given → Behaviour) → Answer → Behaviour
+    onward calls hands y = fills (acting calls hands) (word_count size - (words + 1)) 0 i.line i.function k size (8 * words + 8) (behind calls hands) (word_taken a.working.memory k size words y)
+
+    with_word : (calls : Calls) (hands : Given → Behaviour) → does_on b calls hands words a ≡ ask (actions.Draw (8 * drawn_count size (8 * words))) i.line i.function (onward calls hands)
+    with_word calls hands = with_fill b a i found k q is words calls hands ∙ word_left (acting calls hands) 0 i.line i.function k q (behind calls hands) a.working.memory words more
+
+    pub takes_word : (let m = word_taken a.working.memory k size words x in first_count m k q ≡ size
+        → (calls : Calls) (hands : Given → Behaviour) → does_on b calls hands (words + 1) (record a { working = record a.working { memory = m } }) ≡ after (does_on b calls hands words a) x)
+    takes_word same calls hands =
+        let m = word_taken a.working.memory k size words x in
+        let shape : has_shape (shape_of (actions.Draw (8 * drawn_count size (8 * words)))) x ≡ true =
+        subst (λ (y : Behaviour). accepts (y []) x ≡ true) (with_word (λ caller f line arguments follows. final Blocked) (λ given. final Blocked)) allowed in
+        with_fill b (record a { working = record a.working { memory = m } }) i found k q is (words + 1) calls hands
+        ∙ sym (words_behind (acting calls hands) 0 i.line i.function k q (behind calls hands) a.working.memory words m same)
+        ∙ sym (taken (actions.Draw (8 * drawn_count size (8 * words))) i.line i.function (onward calls hands) x true shape refl)
+        ∙ ap (λ (y : Behaviour). after y x) (sym (with_word calls hands))

@@ -5,13 +5,13 @@ use Rattle.std.proofs.lemmas.Bool.Decides.{nat_tests}
 use Rattle.c_types.specs.declared.integers.IntegerType.{IntegerType}
 use Rattle.c_types.specs.declared.integers.IntegerType.TheVariants as types
 use Rattle.c_types.specs.Integers.{width}
-use Rattle.core_tree.specs.Typed.{is_within}
 use Rattle.goto_prog.specs.declared.code.Condition.{Condition}
 use Rattle.goto_prog.specs.declared.code.Operation.{Operation}
 use Rattle.goto_prog.specs.declared.code.Operation.TheVariants as operations
-use Rattle.goto_prog.specs.Fitting.{is_there, check_fits, operation_fits, is_some_block}
-use Rattle.goto_prog.specs.Running.{is_calculation}
-use Rattle.goto_prog.proofs.Registers.{both, at_most_64}
+use Rattle.goto_prog.specs.Fitting.{is_there, is_pointer, check_fits, operation_fits, is_some_block}
+use Rattle.goto_prog.specs.Running.{is_calculation, is_exchange}
+use Rattle.goto_prog.proofs.Registers.{both}
+use Rattle.goto_prog.proofs.Exchanges.{exchange_fits}
 use Rattle.goto_prog.proofs.Stepping.{calculation_fits}
 
 test_within : (m n : ℕ) → nat_le m n ≡ true → m ≤ n
@@ -45,27 +45,11 @@ module _ (ts : List IntegerType) (ss : List ℕ) (k : ℕ) (o : Operation) (fits
   pub value_here : (v : Option ℕ) → o ≡ operations.Return v → is_some_block ss v ≡ true
   value_here v is = fits_as (operations.Return v) is
 
-  draw_parts : (q bits : ℕ) → o ≡ operations.Draw q bits → (is_there ts q ≡ true) × (1 ≤ bits) × (bits ≤ width (slice_index_or ts q types.Int))
-  draw_parts q bits is =
-      let w = width (slice_index_or ts q types.Int) in
-      let parts = both (is_there ts q && nat_le 1 bits) (nat_le bits w) (fits_as (operations.Draw q bits) is) in
-      let more = both (is_there ts q) (nat_le 1 bits) parts.0 in
-      (more.0, test_within 1 bits more.1, test_within bits w parts.1)
+  pub exchange_here : is_exchange o ≡ true → operation_fits ts ss 0 o ≡ true
+  exchange_here h = exchange_fits ts ss k o h fits
 
-  pub draw_into : (q bits : ℕ) → o ≡ operations.Draw q bits → is_there ts q ≡ true
-  draw_into q bits is = (draw_parts q bits is).0
+  pub fill_here : (b q : ℕ) → o ≡ operations.Fill b q → nat_lt b (length ss) ≡ true
+  fill_here b q is = (both (nat_lt b (length ss)) (is_pointer ts q) (fits_as (operations.Fill b q) is)).0
 
-  pub draw_here : (q bits : ℕ) → o ≡ operations.Draw q bits → 1 ≤ bits
-  draw_here q bits is = (draw_parts q bits is).1
-
-  pub draw_width : (q bits : ℕ) → o ≡ operations.Draw q bits → bits ≤ width (slice_index_or ts q types.Int)
-  draw_width q bits is = (draw_parts q bits is).2
-
-  pub draw_most : (q bits : ℕ) → o ≡ operations.Draw q bits → bits ≤ 64
-  draw_most q bits is = omega (arith, draw_width q bits is, at_most_64 (slice_index_or ts q types.Int))
-
-  pub read_here : (b to object offset count : ℕ) → o ≡ operations.ReadObject b to object offset count → is_within ss b to count ≡ true
-  read_here b to object offset count is = fits_as (operations.ReadObject b to object offset count) is
-
-  pub write_here : (object offset b from count : ℕ) → o ≡ operations.WriteObject object offset b from count → is_within ss b from count ≡ true
-  write_here object offset b from count is = fits_as (operations.WriteObject object offset b from count) is
+  pub fill_count_here : (b q : ℕ) → o ≡ operations.Fill b q → is_pointer ts q ≡ true
+  fill_count_here b q is = (both (nat_lt b (length ss)) (is_pointer ts q) (fits_as (operations.Fill b q) is)).1

@@ -1,13 +1,13 @@
 -- From a place of a function to the next.
-use Rattle.std.proofs.Common.{◌≡◌, ℕ, zero, suc, ◌+◌, ◌<◌, ◌≤◌, ◌^◌, nat_lt, Bool, true, false, ◌&&◌, List, [], ◌∷◌, length, Option, Some, None, refl, sym, ap, ◌∙◌, subst, arith}
-use Rattle.std.specs.Prelude.{nat_le, slice_index_or, if◌then◌else◌, ◌==◌}
+use Rattle.std.proofs.Common.{◌≡◌, ℕ, zero, suc, ◌+◌, ◌*◌, ◌<◌, ◌≤◌, ◌^◌, nat_lt, Bool, true, false, ◌&&◌, List, [], ◌∷◌, length, Option, Some, None, refl, sym, ap, ◌∙◌, subst, arith}
+use Rattle.std.specs.Prelude.{MatchOption, nat_le, slice_index_or, if◌then◌else◌, ◌==◌}
 use Rattle.std.proofs.lemmas.Bool.{false≢true}
+use Rattle.std.proofs.lemmas.Option.{none-some}
 use Rattle.words.specs.declared.check.Class.{Class}
 use Rattle.words.specs.declared.check.Class.TheVariants as classes
 use Rattle.c_types.specs.declared.integers.IntegerType.TheVariants as types
 use Rattle.c_types.specs.Integers.{width}
-use Rattle.core_tree.specs.Typed.{is_within}
-use Rattle.c_values.specs.Variables.{pointer_to, put_bytes}
+use Rattle.c_values.specs.Variables.{word_count, drawn_count}
 use Rattle.actions.specs.declared.action.Action.{Action}
 use Rattle.actions.specs.declared.action.Action.TheVariants as actions
 use Rattle.actions.specs.declared.action.Answer.{Answer}
@@ -18,17 +18,22 @@ use Rattle.goto_prog.specs.declared.code.Condition.{Condition}
 use Rattle.goto_prog.specs.declared.code.Instruction.{Instruction}
 use Rattle.goto_prog.specs.declared.code.Operation.{Operation}
 use Rattle.goto_prog.specs.declared.code.Operation.TheVariants as operations
-use Rattle.goto_prog.specs.Meaning.{Memory, Given, word_of, bytes_in, register, with_register, with_blocks, bytes_of, arguments_of, received, given_by, own_class, calculated, check_class, at, or_else, operates}
+use Rattle.goto_prog.specs.Meaning.{Memory, Given, register, first_count, action_of, arguments_of, received, given_by, own_class, calculated, check_class, at, or_else, fills_on, operates, operates_on}
 use Rattle.goto_prog.specs.Threads.{Calls, acting, behaving, final, ask}
 use Rattle.goto_prog.specs.Fitting.{is_there, is_register, check_fits, operation_fits, is_some_block}
-use Rattle.goto_prog.specs.Running.{is_calculation, is_action, acts, is_act}
+use Rattle.goto_prog.specs.Running.{is_calculation, is_exchange, is_fill, asks_bounds, acts, acts_on, is_act}
 use Rattle.goto_prog.specs.Structured.{Bounded}
-use Rattle.goto_prog.specs.Walking.{Cursor, next_place, landed, place_total, places_from, does_from, place_weight, step_weight, Activation, does, instruction_at, GoesOn, Stops, CallsFunction, HandsOver}
-use Rattle.goto_prog.proofs.Registers.{both}
-use Rattle.goto_prog.proofs.Stepping.{calculation_fits}
+use Rattle.goto_prog.specs.Walking.{Cursor, next_place, landed, place_total, places_from, does_from, place_weight, step_weight, Activation, does, does_on, does_by_instruction, next_instruction, GoesOn, GoesOnWith, Stops, StopsOn, StepsOn, CallsFunction, HandsOver}
+use Rattle.goto_prog.proofs.Registers.{both, test_below}
+use Rattle.goto_prog.proofs.Exchanges.{exchanges, on_none, on_other, exchange_acts, nothing_left, word_left}
+use Rattle.goto_prog.proofs.Stepping.{holds_below}
 use Rattle.goto_prog.proofs.Places.{at_instruction, landing, falls_landed, weight_here, place_some}
 
-module _ (b : Bounded) (a : Activation) (i : Instruction) (found : instruction_at a.place.nodes ≡ Some i) where
+pub none_go_on : (b : Bounded) (a : Activation) (words : ℕ) → next_instruction b a.place.nodes ≡ None → GoesOnWith b words a a
+none_go_on b a zero none = record { same = λ calls hands. refl; falls = λ w. omega arith }
+none_go_on b a (suc k) none = record { same = λ calls hands. sym (ap (does_by_instruction b calls hands (suc k) a) none); falls = λ w. omega arith }
+
+module _ (b : Bounded) (a : Activation) (i : Instruction) (found : next_instruction b a.place.nodes ≡ Some i) where
   abbrev behind : Calls → (Given → Behaviour) → List (Memory → Behaviour)
   behind calls hands = places_from b (acting calls hands) (next_place a.place)
 
@@ -85,12 +90,11 @@ module _ (b : Bounded) (a : Activation) (i : Instruction) (found : instruction_a
   calculates (operations.CopyBytes into to from offset count) h calls hands = plain calls hands _
   calculates (operations.Convert q from to x) h calls hands = plain calls hands _
   calculates (operations.Sign q op t x) h calls hands = refl
-  calculates (operations.Arithmetic q op t u x y) h calls hands = refl
-  calculates (operations.Compare q op t x y) h calls hands = plain calls hands _
+  calculates (operations.Arithmetic q op t u x k) h calls hands = refl
+  calculates (operations.Compare q op t x k) h calls hands = plain calls hands _
   calculates (operations.IsZero q x) h calls hands = plain calls hands _
-  calculates (operations.Use x) h calls hands = refl
-  calculates (operations.Skip k) h calls hands = absurd (false≢true h)
-  calculates (operations.SkipIfZero x k) h calls hands = absurd (false≢true h)
+  calculates (operations.Skip n) h calls hands = absurd (false≢true h)
+  calculates (operations.SkipIfZero x n) h calls hands = absurd (false≢true h)
   calculates (operations.Check c) h calls hands = absurd (false≢true h)
   calculates (operations.Assert x) h calls hands = absurd (false≢true h)
   calculates (operations.Assume x) h calls hands = absurd (false≢true h)
@@ -99,8 +103,25 @@ module _ (b : Bounded) (a : Activation) (i : Instruction) (found : instruction_a
   calculates (operations.WriteObject object offset k from count) h calls hands = absurd (false≢true h)
   calculates operations.Exit h calls hands = absurd (false≢true h)
   calculates (operations.Fail class) h calls hands = absurd (false≢true h)
+  calculates (operations.Use x) h calls hands = refl
   calculates (operations.Call g first count into q) h calls hands = absurd (false≢true h)
   calculates (operations.Return v) h calls hands = absurd (false≢true h)
+  calculates (operations.Move q p w t n size class) h calls hands = refl
+  calculates (operations.Offset q p count) h calls hands = plain calls hands _
+  calculates (operations.Same p q) h calls hands = refl
+  calculates (operations.Distance z p q n) h calls hands = plain calls hands _
+  calculates (operations.Relate z op p q) h calls hands = plain calls hands _
+  calculates (operations.Take k to from p count whole) h calls hands = refl
+  calculates (operations.Put k p from to count whole) h calls hands = refl
+  calculates (operations.Read k to p count) h calls hands = absurd (false≢true h)
+  calculates (operations.Write p k from count first) h calls hands = absurd (false≢true h)
+  calculates (operations.Look q p subscript) h calls hands = absurd (false≢true h)
+  calculates (operations.Fill k q) h calls hands = absurd (false≢true h)
+  calculates (operations.Alloc q k size readonly heap) h calls hands = absurd (false≢true h)
+  calculates (operations.Die p) h calls hands = absurd (false≢true h)
+  calculates (operations.Free p) h calls hands = absurd (false≢true h)
+  calculates (operations.MayFail q) h calls hands = absurd (false≢true h)
+  calculates (operations.Limit x k) h calls hands = absurd (false≢true h)
 
   pub goes_calculated : is_calculation i.operation ≡ true → strict_class i.operation ≡ None → GoesOn b a (record { place = landed 0 (next_place a.place); working = record a.working { memory = calculated i.operation a.working.memory } })
   goes_calculated h none =
@@ -156,36 +177,141 @@ module _ (b : Bounded) (a : Activation) (i : Instruction) (found : instruction_a
   pub stops_fail : (class : Class) → Is (operations.Fail class) → Stops b a a (Broken class i.line i.function)
   stops_fail class is = stops (Broken class i.line i.function) refl (is_operated (operations.Fail class) is)
 
-  acting_now : (o : Operation) → Is o → is_action o ≡ true → acts (instruction_at a.place.nodes) ≡ true
-  acting_now o is action = ap acts found ∙ ap is_action is ∙ action
+  acting_now : (words : ℕ) (o : Operation) → Is o → acts_on words o a.working.memory ≡ true → acts words (next_instruction b a.place.nodes) a.working.memory ≡ true
+  acting_now words o is action = ap (λ x. acts words x a.working.memory) found ∙ ap (λ p. acts_on words p a.working.memory) is ∙ action
 
-  pub stops_draw : (q bits : ℕ) → Is (operations.Draw q bits) → Stops b a a (Act (actions.Draw bits) i.line i.function)
-  stops_draw q bits is = record {
+  pub stops_exchange : is_exchange i.operation ≡ true → Stops b a a (Act (action_of i.operation a.working.memory) i.line i.function)
+  stops_exchange h = record {
     unchanged = refl;
-    next_is = λ calls hands. sym (λ k. (does_here calls hands ∙ is_operated (operations.Draw q bits) is calls hands) k []);
-    acting = λ act. acting_now (operations.Draw q bits) is refl;
+    next_is = λ calls hands. sym (λ k. (does_here calls hands ∙ exchanges (acting calls hands) b.strict 0 i.line i.function (behind calls hands) a.working.memory i.operation h) k []);
+    acting = λ act. acting_now 0 i.operation refl (exchange_acts 0 i.operation a.working.memory h);
   }
 
-  pub stops_read : (k to object offset count : ℕ) → Is (operations.ReadObject k to object offset count) → Stops b a a (Act (actions.Read (pointer_to object offset) count) i.line i.function)
-  stops_read k to object offset count is = record {
-    unchanged = refl;
-    next_is = λ calls hands. sym (λ j. (does_here calls hands ∙ is_operated (operations.ReadObject k to object offset count) is calls hands) j []);
-    acting = λ act. acting_now (operations.ReadObject k to object offset count) is refl;
+  unbounded : (o : Operation) → asks_bounds o ≡ true → (calls : Calls) (hands : Given → Behaviour) → operated calls hands o ≡ final Blocked
+  unbounded (operations.Constant r bits) h calls hands = absurd (false≢true h)
+  unbounded (operations.Copy r x) h calls hands = absurd (false≢true h)
+  unbounded (operations.Load r t k offset) h calls hands = absurd (false≢true h)
+  unbounded (operations.Store k offset count x) h calls hands = absurd (false≢true h)
+  unbounded (operations.Clear k size) h calls hands = absurd (false≢true h)
+  unbounded (operations.CopyBytes into to from offset count) h calls hands = absurd (false≢true h)
+  unbounded (operations.Convert r from to x) h calls hands = absurd (false≢true h)
+  unbounded (operations.Sign r op t x) h calls hands = absurd (false≢true h)
+  unbounded (operations.Arithmetic r op t u x k) h calls hands = absurd (false≢true h)
+  unbounded (operations.Compare r op t x k) h calls hands = absurd (false≢true h)
+  unbounded (operations.IsZero r x) h calls hands = absurd (false≢true h)
+  unbounded (operations.Skip n) h calls hands = absurd (false≢true h)
+  unbounded (operations.SkipIfZero x n) h calls hands = absurd (false≢true h)
+  unbounded (operations.Check c) h calls hands = absurd (false≢true h)
+  unbounded (operations.Assert x) h calls hands = absurd (false≢true h)
+  unbounded (operations.Assume x) h calls hands = absurd (false≢true h)
+  unbounded (operations.Draw r bits) h calls hands = absurd (false≢true h)
+  unbounded (operations.ReadObject k to object offset count) h calls hands = absurd (false≢true h)
+  unbounded (operations.WriteObject object offset k from count) h calls hands = absurd (false≢true h)
+  unbounded operations.Exit h calls hands = absurd (false≢true h)
+  unbounded (operations.Fail class) h calls hands = absurd (false≢true h)
+  unbounded (operations.Use x) h calls hands = absurd (false≢true h)
+  unbounded (operations.Call g first count into r) h calls hands = absurd (false≢true h)
+  unbounded (operations.Return v) h calls hands = absurd (false≢true h)
+  unbounded (operations.Move r p w t n size class) h calls hands = absurd (false≢true h)
+  unbounded (operations.Offset r p count) h calls hands = absurd (false≢true h)
+  unbounded (operations.Same p q) h calls hands = absurd (false≢true h)
+  unbounded (operations.Distance r p q n) h calls hands = absurd (false≢true h)
+  unbounded (operations.Relate r op p q) h calls hands = absurd (false≢true h)
+  unbounded (operations.Take k to from p count whole) h calls hands = absurd (false≢true h)
+  unbounded (operations.Put k p from to count whole) h calls hands = absurd (false≢true h)
+  unbounded (operations.Read k to p count) h calls hands = absurd (false≢true h)
+  unbounded (operations.Write p k from count first) h calls hands = absurd (false≢true h)
+  unbounded (operations.Look r p subscript) h calls hands = absurd (false≢true h)
+  unbounded (operations.Fill k r) h calls hands = absurd (false≢true h)
+  unbounded (operations.Alloc r k size readonly heap) h calls hands = absurd (false≢true h)
+  unbounded (operations.Die p) h calls hands = absurd (false≢true h)
+  unbounded (operations.Free p) h calls hands = absurd (false≢true h)
+  unbounded (operations.MayFail r) h calls hands = refl
+  unbounded (operations.Limit x k) h calls hands = refl
+
+  pub stops_unbounded : asks_bounds i.operation ≡ true → Stops b a a Blocked
+  stops_unbounded h = stops Blocked refl (unbounded i.operation h)
+
+  -- ---- words
+
+  -- what is done where some have been drawn
+  pub with_words : (words : ℕ) (calls : Calls) (hands : Given → Behaviour) → does_on b calls hands words a ≡ operates_on (acting calls hands) words b.strict 0 i.line i.function i.operation (behind calls hands) a.working.memory
+  with_words zero calls hands = does_here calls hands ∙ on_none (acting calls hands) b.strict 0 i.line i.function (behind calls hands) a.working.memory i.operation
+  with_words (suc k) calls hands = ap (does_by_instruction b calls hands (suc k) a) found
+
+  module _ (k q : ℕ) (is : Is (operations.Fill k q)) (words : ℕ) where
+    pub with_fill : (calls : Calls) (hands : Given → Behaviour) → does_on b calls hands words a ≡ fills_on (acting calls hands) words 0 i.line i.function k q (behind calls hands) a.working.memory
+    with_fill calls hands = with_words words calls hands ∙ ap (λ o. operates_on (acting calls hands) words b.strict 0 i.line i.function o (behind calls hands) a.working.memory) is
+
+    abbrev size : ℕ
+    size = first_count a.working.memory k q
+
+    abbrev drawing : Next
+    drawing = Act (actions.Draw (8 * drawn_count size (8 * words))) i.line i.function
+
+    fill_is_next : words < word_count size → (calls : Calls) (hands : Given → Behaviour) → drawing ≡ does_on b calls hands words a []
+    fill_is_next more calls hands = sym (λ j. (with_fill calls hands ∙ word_left (acting calls hands) 0 i.line i.function k q (behind calls hands) a.working.memory words more) j [])
+
+    fill_acts : words < word_count size → acts words (next_instruction b a.place.nodes) a.working.memory ≡ true
+    fill_acts more = acting_now words (operations.Fill k q) is (holds_below words (word_count size) more)
+
+    pub fill_more : acts words (next_instruction b a.place.nodes) a.working.memory ≡ true → words < word_count size
+    fill_more act = test_below words (word_count size) (sym (ap (λ x. acts words x a.working.memory) found ∙ ap (λ o. acts_on words o a.working.memory) is) ∙ act)
+
+    fill_lands : word_count size ≤ words → (calls : Calls) (hands : Given → Behaviour) → does_on b calls hands words a ≡ does b calls hands (record a { place = landed 0 (next_place a.place) })
+    fill_lands past calls hands =
+        with_fill calls hands
+        ∙ nothing_left (acting calls hands) 0 i.line i.function k q (behind calls hands) a.working.memory words past
+        ∙ landing b (acting calls hands) 0 (next_place a.place) a.working.memory (omega arith)
+
+    pub fill_goes_on : word_count size ≤ words → GoesOnWith b words a (record a { place = landed 0 (next_place a.place) })
+    fill_goes_on past = record {
+      same = λ calls hands. sym (fill_lands past calls hands);
+      falls = λ w. omega (arith, falls_landed b w 0 a.place i found);
+    }
+
+    pub fill_draws_on : words < word_count size → StopsOn b words a drawing
+    fill_draws_on more = record { next_is = fill_is_next more; acting = λ act. fill_acts more }
+
+  pub begin_goes : (k q : ℕ) → Is (operations.Fill k q) → word_count (first_count a.working.memory k q) ≤ 0 → GoesOn b a (record a { place = landed 0 (next_place a.place) })
+  begin_goes k q is past = record {
+    same = λ calls hands. sym (fill_lands k q is 0 past calls hands);
+    falls = λ w. falls_landed b w 0 a.place i found;
   }
 
-  pub stops_write : (object offset k from count : ℕ) → Is (operations.WriteObject object offset k from count)
-      → Stops b a a (Act (actions.Write (pointer_to object offset) (bytes_of a.working.memory.blocks k from count) false) i.line i.function)
-  stops_write object offset k from count is = record {
-    unchanged = refl;
-    next_is = λ calls hands. sym (λ j. (does_here calls hands ∙ is_operated (operations.WriteObject object offset k from count) is calls hands) j []);
-    acting = λ act. acting_now (operations.WriteObject object offset k from count) is refl;
+  pub begin_stops : (k q : ℕ) → Is (operations.Fill k q) → 0 < word_count (first_count a.working.memory k q) → Stops b a a (Act (actions.Draw (8 * drawn_count (first_count a.working.memory k q) (8 * 0))) i.line i.function)
+  begin_stops k q is more = record { unchanged = refl; next_is = fill_is_next k q is 0 more; acting = λ act. fill_acts k q is 0 more }
+
+  -- the next word, or what comes behind
+  abbrev pub Fills : (k q words : ℕ) (new : Activation) → Option Next → Type 0
+  Fills k q words new result =
+      MatchOption result ((word_count (first_count a.working.memory k q) ≤ words) × (new ≡ record a { place = landed 0 (next_place a.place) }))
+      (λ n. (words < word_count (first_count a.working.memory k q)) × (n ≡ Act (actions.Draw (8 * drawn_count (first_count a.working.memory k q) (8 * words))) i.line i.function) × (new ≡ a))
+
+  pub fill_goes : (k q : ℕ) → Is (operations.Fill k q) → (new : Activation) (result : Option Next) → Fills k q 0 new result → result ≡ None → GoesOn b a new
+  fill_goes k q is new None h none = subst (λ (x : Activation). GoesOn b a x) (sym h.1) (begin_goes k q is h.0)
+  fill_goes k q is new (Some n) h none = absurd (none-some n (sym none))
+
+  pub fill_stops : (k q : ℕ) → Is (operations.Fill k q) → (new : Activation) (result : Option Next) (n : Next) → Fills k q 0 new result → result ≡ Some n → Stops b a new n
+  fill_stops k q is new result n h some =
+      let g = subst (λ (r : Option Next). Fills k q 0 new r) some h in
+      subst (λ (x : Activation). Stops b a x n) (sym g.2) (subst (λ (m : Next). Stops b a a m) (sym g.1) (begin_stops k q is g.0))
+
+  pub fill_goes_with : (k q words : ℕ) → Is (operations.Fill k q) → (new : Activation) (result : Option Next) → Fills k q words new result → StepsOn b words a new result
+  fill_goes_with k q words is new None h = subst (λ (x : Activation). GoesOnWith b words a x) (sym h.1) (fill_goes_on k q is words h.0)
+  fill_goes_with k q words is new (Some n) h = (h.2, subst (λ (m : Next). StopsOn b words a m) (sym h.1) (fill_draws_on k q is words h.0))
+
+  pub others_go_on : (words : ℕ) → is_fill i.operation ≡ false → GoesOnWith b words a a
+  others_go_on words h = record {
+    same = λ calls hands. does_here calls hands ∙ sym (on_other (acting calls hands) b.strict 0 i.line i.function (behind calls hands) a.working.memory words i.operation h) ∙ sym (with_words words calls hands);
+    falls = λ w. omega arith;
   }
 
   pub stops_exit : Is operations.Exit → Stops b a a (Act actions.Exit i.line i.function)
   stops_exit is = record {
     unchanged = refl;
     next_is = λ calls hands. sym (λ j. (does_here calls hands ∙ is_operated operations.Exit is calls hands) j []);
-    acting = λ act. acting_now operations.Exit is refl;
+    acting = λ act. acting_now 0 operations.Exit is refl;
   }
 
   pub calls_here : (f first count into q : ℕ) → Is (operations.Call f first count into q) → operation_fits a.working.types a.working.sizes (place_total (next_place a.place)) i.operation ≡ true

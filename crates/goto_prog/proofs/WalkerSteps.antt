@@ -15,6 +15,8 @@ use Rattle.actions.specs.declared.action.Next.TheVariants.{Act, Ended, Broken, B
 use Rattle.actions.specs.Behaviour.{Behaviour, Thread, shape_of, has_shape, accepts, after, answered, word_64}
 use Rattle.goto_prog.specs.declared.code.Instruction.{Instruction}
 use Rattle.goto_prog.specs.declared.nodes.Procedure.{Procedure}
+use Rattle.goto_prog.specs.declared.activation.Received.{Received}
+use Rattle.goto_prog.specs.declared.activation.Received.TheVariants as receiveds
 use Rattle.goto_prog.specs.declared.walker.Status.{Status}
 use Rattle.goto_prog.specs.declared.walker.Status.TheVariants as statuses
 use Rattle.goto_prog.specs.Meaning.{Given, arguments_of, received}
@@ -23,8 +25,8 @@ use Rattle.goto_prog.specs.Nodes.{Routine, view_procedure, view_procedures, rout
 use Rattle.goto_prog.proofs.Registers.{both}
 use Rattle.goto_prog.specs.Running.{is_act}
 use Rattle.goto_prog.specs.Structured.{first_left, first_fuel, leaves, runs_at, function_thread, Bounded, passed, enters, opened, activation, leaves_with, value_of, bounded_program}
-use Rattle.goto_prog.specs.Walking.{Activation, does, does_from, place_weight, entry, stepped_over, GoesOn, Stops, CallsFunction, HandsOver, IsReceived, lone}
-use Rattle.goto_prog.specs.Walks.{total, Waiting, Walk, bounded, calls_with, closed, hands_to, ends_of, does_by, walks, thread_of, entry_weight, call_weight, calls_weight, waiting_weight, weight_by, weight, IsHalted, Steps}
+use Rattle.goto_prog.specs.Walking.{Activation, does, does_from, place_weight, entry, stepped_over, GoesOn, GoesOnWith, Stops, StopsOn, StepsOn, CallsFunction, HandsOver, IsReceived, lone_on}
+use Rattle.goto_prog.specs.Walks.{total, Waiting, Walk, bounded, calls_with, closed, hands_to, ends_of, status_behind, top_on, does_by, walks, thread_of, entry_weight, call_weight, calls_weight, waiting_weight, weight_by, weight, IsHalted, Steps}
 
 -- ---- counts of activations
 
@@ -67,7 +69,7 @@ module _ (w : Walk) (running : w.status ≡ statuses.Running) where
 
   pub walk_stops : (next : Next) → Stops b w.top w.top next → Steps w w (Some next)
   walk_stops next stops =
-      (refl, stops.next_is (calls_with b w.left) hands ∙ sym (λ k. walks_top k []), subst (λ s. IsHalted s w next) (sym running) (λ act. stops))
+      (refl, stops.next_is (calls_with b w.left) hands ∙ sym (λ k. walks_top k []), subst (λ s. IsHalted s w next) (sym running) (λ act. record { next_is = stops.next_is; acting = stops.acting }))
 
   no_act : (next : Next) → is_act next ≡ false → IsHalted w.status w next
   no_act next none = subst (λ s. IsHalted s w next) (sym running) (λ act. absurd (false≢true (sym none ∙ act)))
@@ -182,21 +184,67 @@ module _ (w : Walk) (running : w.status ≡ statuses.Running) where
           omega (arith, weight_top, ap (λ s. weight_by s new) running, ap (λ (xs : List Waiting). waiting_weight b w.left xs) is, over.falls (calls_weight b w.left)),
         )
 
-  -- ---- answers
+-- ---- steps and answers where some words of the instruction on top have been drawn
 
-  pub allowed_top : (next : Next) (x : Answer) → Stops b w.top w.top next → accepts next x ≡ true → accepts (lone b w.top []) x ≡ true
+module _ (w : Walk) (words : ℕ) where
+  abbrev bs : Bounded
+  bs = bounded w
+
+  pub draws_stop : (next : Next) → w.status ≡ statuses.Drawing words → StopsOn bs words w.top next → Steps w w (Some next)
+  draws_stop next is stops = (
+    refl,
+    stops.next_is (calls_with bs w.left) (hands_to bs (ends_of w) w.left w.below) ∙ sym (λ k. (ap (λ s. does_by s w) is) k []),
+    subst (λ s. IsHalted s w next) (sym is) (λ act. stops),
+  )
+
+  pub draws_go : (top : Activation) → w.status ≡ statuses.Drawing words → GoesOnWith bs words w.top top → Steps w (record w { top = top; status = statuses.Running }) None
+  draws_go top is goes = (
+    (λ k. record { behaves = (goes.same (calls_with bs w.left) (hands_to bs (ends_of w) w.left w.below) ∙ sym (ap (λ s. does_by s w) is)) k; program = bounded_program bs }),
+    omega (arith, ap (λ s. weight_by s w) is, goes.falls (calls_weight bs w.left)),
+  )
+
+  pub draws_on_stop : (new : Walk) (result : Option Next) (n : Next) → w.status ≡ statuses.Drawing words → StepsOn bs words w.top new.top result → new ≡ record w { top = new.top } → result ≡ Some n → Steps w new (Some n)
+  draws_on_stop new result n is steps others some =
+      let s = subst (λ (r : Option Next). StepsOn bs words w.top new.top r) some steps in
+      subst (λ (x : Walk). Steps w x (Some n)) (sym (others ∙ ap (λ (a : Activation). record w { top = a }) s.0)) (draws_stop n is s.1)
+
+  pub draws_on_go : (new : Walk) (result : Option Next) → w.status ≡ statuses.Drawing words → StepsOn bs words w.top new.top result → new ≡ record w { top = new.top } → result ≡ None → Steps w (record new { status = statuses.Running }) None
+  draws_on_go new result is steps others none =
+      let s = subst (λ (r : Option Next). StepsOn bs words w.top new.top r) none steps in
+      subst (λ (x : Walk). Steps w (record x { status = statuses.Running }) None) (sym others) (draws_go new.top is s)
+
+  pub allowed_top : (next : Next) (x : Answer) → StopsOn bs words w.top next → accepts next x ≡ true → accepts (lone_on bs words w.top []) x ≡ true
   allowed_top next x stops ok = subst (λ (n : Next). accepts n x ≡ true) (stops.next_is (λ caller f line arguments follows. final Blocked) (λ given. final Blocked)) ok
 
-  pub walk_receives : (top : Activation) (x : Answer) → IsReceived b w.top top x false → thread_of (record w { top = top }) ≡ answered (thread_of w) x
-  walk_receives top x is =
-      let new = record w { top = top } in
-      let same = ap (λ s. does_by s new) running ∙ is (calls_with b w.left) hands ∙ sym (ap (λ (y : Behaviour). after y x) walks_top) in
-      λ k. record { behaves = same k; program = bounded_program b }
+  module _ (stands : walks w ≡ top_on w words) (top : Activation) (x : Answer) where
+    answered_by : (status : Status) → does_by status (record w { top = top; status = status }) ≡ after (top_on w words) x → thread_of (record w { top = top; status = status }) ≡ answered (thread_of w) x
+    answered_by status same = λ k. record { behaves = (same ∙ sym (ap (λ (y : Behaviour). after y x) stands)) k; program = bounded_program bs }
 
-  pub walk_exits : (top : Activation) (x : Answer) → IsReceived b w.top top x true → thread_of (record w { status = statuses.Over 0; top = top }) ≡ answered (thread_of w) x
-  walk_exits top x is =
-      let same = is (calls_with b w.left) hands ∙ sym (ap (λ (y : Behaviour). after y x) walks_top) in
-      λ k. record { behaves = same k; program = bounded_program b }
+    pub walk_receives : IsReceived bs words w.top top x receiveds.GoesOn → thread_of (record w { top = top; status = statuses.Running }) ≡ answered (thread_of w) x
+    walk_receives is = answered_by statuses.Running (is (calls_with bs w.left) (hands_to bs (ends_of w) w.left w.below))
+
+    pub walk_draws : (more : ℕ) → IsReceived bs words w.top top x (receiveds.Draws more) → thread_of (record w { top = top; status = statuses.Drawing more }) ≡ answered (thread_of w) x
+    walk_draws more is = answered_by (statuses.Drawing more) (is (calls_with bs w.left) (hands_to bs (ends_of w) w.left w.below))
+
+    pub walk_ends : IsReceived bs words w.top top x receiveds.Ends → thread_of (record w { top = top; status = statuses.Over 0 }) ≡ answered (thread_of w) x
+    walk_ends is = answered_by (statuses.Over 0) (is (calls_with bs w.left) (hands_to bs (ends_of w) w.left w.below))
+
+    pub walk_received : (r : Received) → IsReceived bs words w.top top x r → thread_of (record w { top = top; status = status_behind r }) ≡ answered (thread_of w) x
+    walk_received receiveds.GoesOn is = walk_receives is
+    walk_received (receiveds.Draws more) is = walk_draws more is
+    walk_received receiveds.Ends is = walk_ends is
+
+pub stands_running : (w : Walk) → w.status ≡ statuses.Running → walks w ≡ top_on w 0
+stands_running w is = ap (λ s. does_by s w) is
+
+pub stands_drawing : (w : Walk) (words : ℕ) → w.status ≡ statuses.Drawing words → walks w ≡ top_on w words
+stands_drawing w words is = ap (λ s. does_by s w) is
+
+pub halted_running : (w : Walk) (next : Next) → w.status ≡ statuses.Running → IsHalted w.status w next → is_act next ≡ true → StopsOn (bounded w) 0 w.top next
+halted_running w next is halted = subst (λ s. IsHalted s w next) is halted
+
+pub halted_drawing : (w : Walk) (words : ℕ) (next : Next) → w.status ≡ statuses.Drawing words → IsHalted w.status w next → is_act next ≡ true → StopsOn (bounded w) words w.top next
+halted_drawing w words next is halted = subst (λ s. IsHalted s w next) is halted
 
 -- ---- the end of a thread
 

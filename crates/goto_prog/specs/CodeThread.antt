@@ -43,10 +43,10 @@ code_thread strict functions code place m = record { behaves = runs strict code 
 -- ---- it is a thread
 
 module _ (program : Program) where
-  no_calls : AreFineCalls program (λ caller f line arguments follows. final Blocked)
+  pub no_calls : AreFineCalls program (λ caller f line arguments follows. final Blocked)
   no_calls caller f line arguments follows fine = final_behaves program Blocked tt
 
-  nothing_over : (given : Given) → IsBehaviour program (final Blocked)
+  pub nothing_over : (given : Given) → IsBehaviour program (final Blocked)
   nothing_over given = final_behaves program Blocked tt
 
   does_fine : (strict : Bool) (place : ℕ) (code : List Instruction) (m : Memory) → IsBehaviour program (does behaving strict place code m)

@@ -1,20 +1,24 @@
 -- What code does is what a thread may do, if what its calls do and what becomes of what it hands over are.
-use Rattle.std.specs.Prelude.{◌≡◌, ℕ, zero, suc, Bool, true, false, ◌==◌, List, [], ◌∷◌, ◌++◌, Option, Some, None, if◌then◌else◌}
+use Rattle.std.specs.Prelude.{◌≡◌, ℕ, zero, suc, ◌+◌, ◌-◌, ◌*◌, Bool, true, false, ◌==◌, List, [], ◌∷◌, ◌++◌, Option, Some, None, if◌then◌else◌}
 use Rattle.std.proofs.Common.{refl, sym, true≢false}
 use Rattle.words.specs.declared.check.Class.{Class}
 use Rattle.words.specs.declared.check.Class.TheVariants.{Assertion}
 use Rattle.core_tree.specs.Operations.{arithmetic_check, sign_check}
-use Rattle.c_values.specs.Variables.{pointer_to, put_bytes}
+use Rattle.c_values.specs.Variables.{pointer_to, low_bytes, put_bytes, word_count, drawn_count}
+use Rattle.c_values.specs.MadeObjects.{made_of}
+use Rattle.c_values.proofs.MadeObjects.{made_can_be}
+use Rattle.actions.specs.StoredObject.{CanBeMade}
 use Rattle.actions.specs.declared.action.Action.{Action}
-use Rattle.actions.specs.declared.action.Action.TheVariants.{Read, Write, Draw, End, Exit}
+use Rattle.actions.specs.declared.action.Action.TheVariants.{Read, Write, Look, Draw, Alloc, Die, Free, End, Exit}
 use Rattle.actions.specs.declared.action.Answer.{Answer}
 use Rattle.actions.specs.declared.action.Next.{Next}
 use Rattle.actions.specs.declared.action.Next.TheVariants.{Act, Ended, Blocked, Broken}
+use Rattle.actions.specs.Pointer.{object_of}
 use Rattle.actions.specs.Behaviour.{Behaviour, Program, shape_of, has_shape, accepts, CanStart, MakesProper, EndsAfter, IsProper, IsBehaviour, word_64}
 use Rattle.goto_prog.specs.declared.code.Instruction.{Instruction}
 use Rattle.goto_prog.specs.declared.code.Operation.{Operation}
 use Rattle.goto_prog.specs.declared.code.Operation.TheVariants as operations
-use Rattle.goto_prog.specs.Meaning.{Memory, Given, Reading, at, or_else, check_class, return_check, arguments_of, received, given_by, operates, places_before, register, with_register, with_blocks, bytes_of, word_of, bytes_in}
+use Rattle.goto_prog.specs.Meaning.{Memory, Given, Reading, at, or_else, check_class, return_check, range_check, same_check, inside_check, arguments_of, received, given_by, first_count, first_bytes, fills, operates, operates_on, places_before, register, with_register, with_blocks, bytes_of, word_of, bytes_in, size_in, number_in}
 use Rattle.goto_prog.specs.Threads.{Calls, acting, ask, final}
 
 -- the next isn't an action
@@ -28,7 +32,11 @@ IsEnd (Broken class line f) = Unit {0}
 abbrev pub IsStep : Action → (Answer → Behaviour) → Type 0
 IsStep (Read p n) follows = Unit {0}
 IsStep (Write p new first) follows = Unit {0}
+IsStep (Look p subscript) follows = Unit {0}
 IsStep (Draw bits) follows = Unit {0}
+IsStep (Alloc o) follows = CanBeMade o
+IsStep (Die k) follows = Unit {0}
+IsStep (Free p) follows = Unit {0}
 IsStep (End v) follows = (a : Answer) → follows a ≡ final (Ended (word_64 v))
 IsStep Exit follows = (a : Answer) → follows a ≡ final (Ended (word_64 0))
 IsStep _ follows = ⊥
@@ -90,7 +98,11 @@ module _ (program : Program) where
   action_creates : (action : Action) (line f : ℕ) (follows : Answer → Behaviour) → IsStep action follows → CanStart program (Act action line f)
   action_creates (Read p n) line f follows step = tt
   action_creates (Write p new first) line f follows step = tt
+  action_creates (Look p subscript) line f follows step = tt
   action_creates (Draw bits) line f follows step = tt
+  action_creates (Alloc o) line f follows step = tt
+  action_creates (Die k) line f follows step = tt
+  action_creates (Free p) line f follows step = tt
   action_creates (End v) line f follows step = tt
   action_creates Exit line f follows step = tt
   action_creates _ line f follows step = absurd step
@@ -98,7 +110,11 @@ module _ (program : Program) where
   action_makes : (action : Action) (line f : ℕ) (follows : Answer → Behaviour) → IsStep action follows → MakesProper (Act action line f)
   action_makes (Read p n) line f follows step = tt
   action_makes (Write p new first) line f follows step = tt
+  action_makes (Look p subscript) line f follows step = tt
   action_makes (Draw bits) line f follows step = tt
+  action_makes (Alloc o) line f follows step = step
+  action_makes (Die k) line f follows step = tt
+  action_makes (Free p) line f follows step = tt
   action_makes (End v) line f follows step = tt
   action_makes Exit line f follows step = tt
   action_makes _ line f follows step = absurd step
@@ -111,7 +127,11 @@ module _ (program : Program) where
       → EndsAfter (Act action line f) a (if has_shape (shape_of action) a then follows a [] else Blocked)
   action_ends (Read p n) line f follows step a = tt
   action_ends (Write p new first) line f follows step a = tt
+  action_ends (Look p subscript) line f follows step a = tt
   action_ends (Draw bits) line f follows step a = tt
+  action_ends (Alloc o) line f follows step a = tt
+  action_ends (Die k) line f follows step a = tt
+  action_ends (Free p) line f follows step a = tt
   action_ends (End v) line f follows step a = λ ok. end_reached v (has_shape (shape_of (End v)) a) (follows a []) (λ i. step a i []) ok
   action_ends Exit line f follows step a = λ ok. end_reached 0 (has_shape (shape_of Exit) a) (follows a []) (λ i. step a i []) ok
   action_ends _ line f follows step a = absurd step
@@ -165,6 +185,13 @@ module _ (program : Program) where
     strict_fine : (strict : Bool) (c : Option Class) (line f : ℕ) (next : Behaviour) → IsBehaviour program next → IsBehaviour program (or_else here (if strict then c else None) line f next)
     strict_fine strict c line f next fine = check_fine (if strict then c else None) line f next fine
 
+    pub fills_fine : (words place line f b size offset : ℕ) (ps : List (Memory → Behaviour)) (m : Memory) → AreFine ps → IsBehaviour program (fills here words place line f b size offset ps m)
+    fills_fine zero place line f b size offset ps m fine = at_fine ps 0 m fine
+    fills_fine (suc k) place line f b size offset ps m fine =
+        let count = drawn_count size offset in
+        let now = λ (a : Answer). with_blocks m (put_bytes m.blocks b offset (low_bytes count (word_of a))) in
+        ask_behaves (Draw (8 * count)) line f (λ a. fills here k place line f b size (offset + 8) ps (now a)) tt (λ a. fills_fine k place line f b size (offset + 8) ps (now a) fine)
+
     pub operation_fine : (strict : Bool) (place line f : ℕ) (o : Operation) (ps : List (Memory → Behaviour)) (m : Memory) → AreFine ps → IsBehaviour program (operates here strict place line f o ps m)
     operation_fine strict place line f (operations.Constant r bits) ps m fine = at_fine ps 0 _ fine
     operation_fine strict place line f (operations.Copy r a) ps m fine = at_fine ps 0 _ fine
@@ -196,6 +223,71 @@ module _ (program : Program) where
     operation_fine strict place line f (operations.Call g first count into r) ps m fine =
         fine_calls f g line (arguments_of m.blocks first count) (λ given. at here ps 0 (received m into r given)) (λ given. at_fine ps 0 (received m into r given) fine)
     operation_fine strict place line f (operations.Return v) ps m fine = fine_hands (given_by m v)
+    operation_fine strict place line f (operations.Move r p i t n size class) ps m fine = strict_fine strict (range_check m p i t n size class) line f _ (at_fine ps 0 _ fine)
+    operation_fine strict place line f (operations.Offset r p count) ps m fine = at_fine ps 0 _ fine
+    operation_fine strict place line f (operations.Same p q) ps m fine = strict_fine strict (same_check m p q) line f _ (at_fine ps 0 m fine)
+    operation_fine strict place line f (operations.Distance r p q n) ps m fine = at_fine ps 0 _ fine
+    operation_fine strict place line f (operations.Relate r op p q) ps m fine = at_fine ps 0 _ fine
+    operation_fine strict place line f (operations.Take b to from p count whole) ps m fine = strict_fine strict (inside_check m p count whole) line f _ (at_fine ps 0 _ fine)
+    operation_fine strict place line f (operations.Put b p from to count whole) ps m fine = strict_fine strict (inside_check m p count whole) line f _ (at_fine ps 0 _ fine)
+    operation_fine strict place line f (operations.Read b to p count) ps m fine =
+        ask_behaves (Read (register m p) count) line f (λ a. at here ps 0 (with_blocks m (put_bytes m.blocks b to (bytes_in a)))) tt (λ a. at_fine ps 0 (with_blocks m (put_bytes m.blocks b to (bytes_in a))) fine)
+    operation_fine strict place line f (operations.Write p b from count first) ps m fine =
+        ask_behaves (Write (register m p) (bytes_of m.blocks b from count) first) line f (λ a. at here ps 0 m) tt (λ a. at_fine ps 0 m fine)
+    operation_fine strict place line f (operations.Look r p subscript) ps m fine =
+        ask_behaves (Look (register m p) subscript) line f (λ a. at here ps 0 (with_register m r (size_in a))) tt (λ a. at_fine ps 0 (with_register m r (size_in a)) fine)
+    operation_fine strict place line f (operations.Fill b r) ps m fine =
+        let size = first_count m b r in fills_fine (word_count size - 0) place line f b size (8 * 0) ps m fine
+    operation_fine strict place line f (operations.Alloc r b size readonly heap) ps m fine =
+        ask_behaves (Alloc (made_of readonly heap (first_bytes m b size))) line f (λ a. at here ps 0 (with_register m r (pointer_to (number_in a) 0))) (made_can_be readonly heap (first_bytes m b size))
+        (λ a. at_fine ps 0 (with_register m r (pointer_to (number_in a) 0)) fine)
+    operation_fine strict place line f (operations.Die p) ps m fine = ask_behaves (Die (object_of (register m p))) line f (λ a. at here ps 0 m) tt (λ a. at_fine ps 0 m fine)
+    operation_fine strict place line f (operations.Free p) ps m fine = ask_behaves (Free (register m p)) line f (λ a. at here ps 0 m) tt (λ a. at_fine ps 0 m fine)
+    operation_fine strict place line f (operations.MayFail r) ps m fine = final_behaves Blocked tt
+    operation_fine strict place line f (operations.Limit a b) ps m fine = final_behaves Blocked tt
+
+    pub rest_fine : (words : ℕ) (strict : Bool) (place line f : ℕ) (o : Operation) (ps : List (Memory → Behaviour)) (m : Memory) → AreFine ps → IsBehaviour program (operates_on here words strict place line f o ps m)
+    rest_fine words strict place line f (operations.Constant r bits) ps m fine = operation_fine strict place line f (operations.Constant r bits) ps m fine
+    rest_fine words strict place line f (operations.Copy r a) ps m fine = operation_fine strict place line f (operations.Copy r a) ps m fine
+    rest_fine words strict place line f (operations.Load r t b offset) ps m fine = operation_fine strict place line f (operations.Load r t b offset) ps m fine
+    rest_fine words strict place line f (operations.Store b offset count a) ps m fine = operation_fine strict place line f (operations.Store b offset count a) ps m fine
+    rest_fine words strict place line f (operations.Clear b size) ps m fine = operation_fine strict place line f (operations.Clear b size) ps m fine
+    rest_fine words strict place line f (operations.CopyBytes into to from offset count) ps m fine = operation_fine strict place line f (operations.CopyBytes into to from offset count) ps m fine
+    rest_fine words strict place line f (operations.Convert r from to a) ps m fine = operation_fine strict place line f (operations.Convert r from to a) ps m fine
+    rest_fine words strict place line f (operations.Sign r op t a) ps m fine = operation_fine strict place line f (operations.Sign r op t a) ps m fine
+    rest_fine words strict place line f (operations.Arithmetic r op t u a b) ps m fine = operation_fine strict place line f (operations.Arithmetic r op t u a b) ps m fine
+    rest_fine words strict place line f (operations.Compare r op t a b) ps m fine = operation_fine strict place line f (operations.Compare r op t a b) ps m fine
+    rest_fine words strict place line f (operations.IsZero r a) ps m fine = operation_fine strict place line f (operations.IsZero r a) ps m fine
+    rest_fine words strict place line f (operations.Skip n) ps m fine = operation_fine strict place line f (operations.Skip n) ps m fine
+    rest_fine words strict place line f (operations.SkipIfZero a n) ps m fine = operation_fine strict place line f (operations.SkipIfZero a n) ps m fine
+    rest_fine words strict place line f (operations.Check c) ps m fine = operation_fine strict place line f (operations.Check c) ps m fine
+    rest_fine words strict place line f (operations.Assert a) ps m fine = operation_fine strict place line f (operations.Assert a) ps m fine
+    rest_fine words strict place line f (operations.Assume a) ps m fine = operation_fine strict place line f (operations.Assume a) ps m fine
+    rest_fine words strict place line f (operations.Draw r bits) ps m fine = operation_fine strict place line f (operations.Draw r bits) ps m fine
+    rest_fine words strict place line f (operations.ReadObject b to k offset count) ps m fine = operation_fine strict place line f (operations.ReadObject b to k offset count) ps m fine
+    rest_fine words strict place line f (operations.WriteObject k offset b from count) ps m fine = operation_fine strict place line f (operations.WriteObject k offset b from count) ps m fine
+    rest_fine words strict place line f operations.Exit ps m fine = operation_fine strict place line f operations.Exit ps m fine
+    rest_fine words strict place line f (operations.Fail class) ps m fine = operation_fine strict place line f (operations.Fail class) ps m fine
+    rest_fine words strict place line f (operations.Use a) ps m fine = operation_fine strict place line f (operations.Use a) ps m fine
+    rest_fine words strict place line f (operations.Call g first count into r) ps m fine = operation_fine strict place line f (operations.Call g first count into r) ps m fine
+    rest_fine words strict place line f (operations.Return v) ps m fine = operation_fine strict place line f (operations.Return v) ps m fine
+    rest_fine words strict place line f (operations.Move r p i t n size class) ps m fine = operation_fine strict place line f (operations.Move r p i t n size class) ps m fine
+    rest_fine words strict place line f (operations.Offset r p count) ps m fine = operation_fine strict place line f (operations.Offset r p count) ps m fine
+    rest_fine words strict place line f (operations.Same p q) ps m fine = operation_fine strict place line f (operations.Same p q) ps m fine
+    rest_fine words strict place line f (operations.Distance r p q n) ps m fine = operation_fine strict place line f (operations.Distance r p q n) ps m fine
+    rest_fine words strict place line f (operations.Relate r op p q) ps m fine = operation_fine strict place line f (operations.Relate r op p q) ps m fine
+    rest_fine words strict place line f (operations.Take b to from p count whole) ps m fine = operation_fine strict place line f (operations.Take b to from p count whole) ps m fine
+    rest_fine words strict place line f (operations.Put b p from to count whole) ps m fine = operation_fine strict place line f (operations.Put b p from to count whole) ps m fine
+    rest_fine words strict place line f (operations.Read b to p count) ps m fine = operation_fine strict place line f (operations.Read b to p count) ps m fine
+    rest_fine words strict place line f (operations.Write p b from count first) ps m fine = operation_fine strict place line f (operations.Write p b from count first) ps m fine
+    rest_fine words strict place line f (operations.Look r p subscript) ps m fine = operation_fine strict place line f (operations.Look r p subscript) ps m fine
+    rest_fine words strict place line f (operations.Fill b r) ps m fine =
+        let size = first_count m b r in fills_fine (word_count size - words) place line f b size (8 * words) ps m fine
+    rest_fine words strict place line f (operations.Alloc r b size readonly heap) ps m fine = operation_fine strict place line f (operations.Alloc r b size readonly heap) ps m fine
+    rest_fine words strict place line f (operations.Die p) ps m fine = operation_fine strict place line f (operations.Die p) ps m fine
+    rest_fine words strict place line f (operations.Free p) ps m fine = operation_fine strict place line f (operations.Free p) ps m fine
+    rest_fine words strict place line f (operations.MayFail r) ps m fine = operation_fine strict place line f (operations.MayFail r) ps m fine
+    rest_fine words strict place line f (operations.Limit a b) ps m fine = operation_fine strict place line f (operations.Limit a b) ps m fine
 
     pub places_fine : (strict : Bool) (place : ℕ) (code : List Instruction) (later : List (Memory → Behaviour)) → AreFine later → AreFine (places_before here strict place code later)
     places_fine strict place [] later fine = fine

@@ -21,6 +21,10 @@ is_there registers r = nat_lt r (length registers)
 abbrev pub is_register : List IntegerType → ℕ → IntegerType → Bool
 is_register registers r t = nat_lt r (length registers) && same_integer (slice_index_or registers r types.Int) t
 
+-- a register for pointers, and for sizes
+abbrev pub is_pointer : List IntegerType → ℕ → Bool
+is_pointer registers r = is_register registers r types.UnsignedLong
+
 -- a register with so many bytes at least, and at least one
 abbrev pub has_bytes : List IntegerType → ℕ → ℕ → Bool
 has_bytes registers r count = nat_lt r (length registers) && nat_le 1 count && nat_le (8 * count) (width (slice_index_or registers r types.Int))
@@ -49,6 +53,10 @@ check_fits registers (checks.Negation t a) = is_signed t && is_register register
 check_fits registers (checks.Count t u count) = is_register registers count u
 check_fits registers (checks.LeftShift t u a count) = is_signed t && is_register registers a t && is_register registers count u
 check_fits registers (checks.Returned a) = is_there registers a
+check_fits registers (checks.Within p i t n size class) = is_pointer registers p && is_register registers i t && is_pointer registers size
+check_fits registers (checks.SameObject p q) = is_pointer registers p && is_pointer registers q
+check_fits registers (checks.Inside p count whole) = is_pointer registers p
+check_fits registers (checks.AtMost a b most) = is_pointer registers a && is_pointer registers b
 
 -- a block, or none
 abbrev pub is_some_block : List ℕ → Option ℕ → Bool
@@ -81,6 +89,22 @@ operation_fits registers blocks behind (operations.Fail class) = true
 operation_fits registers blocks behind (operations.Use a) = is_there registers a
 operation_fits registers blocks behind (operations.Call f first count into r) = nat_le (first + count) (length blocks) && nat_lt into (length blocks) && is_register registers r types.Int
 operation_fits registers blocks behind (operations.Return v) = is_some_block blocks v
+operation_fits registers blocks behind (operations.Move r p i t n size class) = is_pointer registers r && (is_pointer registers p && is_register registers i t && is_pointer registers size)
+operation_fits registers blocks behind (operations.Offset r p count) = is_pointer registers r && is_pointer registers p
+operation_fits registers blocks behind (operations.Same p q) = is_pointer registers p && is_pointer registers q
+operation_fits registers blocks behind (operations.Distance r p q n) = is_register registers r types.Long && is_pointer registers p && is_pointer registers q && nat_le 1 n
+operation_fits registers blocks behind (operations.Relate r op p q) = is_register registers r types.Int && is_pointer registers p && is_pointer registers q
+operation_fits registers blocks behind (operations.Take b to from p count whole) = is_pointer registers p && is_within blocks b to count && is_block blocks from whole
+operation_fits registers blocks behind (operations.Put b p from to count whole) = is_pointer registers p && is_within blocks from to count && is_block blocks b whole
+operation_fits registers blocks behind (operations.Read b to p count) = is_pointer registers p && is_within blocks b to count
+operation_fits registers blocks behind (operations.Write p b from count first) = is_pointer registers p && is_within blocks b from count
+operation_fits registers blocks behind (operations.Look r p subscript) = is_pointer registers r && is_pointer registers p
+operation_fits registers blocks behind (operations.Fill b r) = nat_lt b (length blocks) && is_pointer registers r
+operation_fits registers blocks behind (operations.Alloc r b size readonly heap) = is_pointer registers r && nat_lt b (length blocks) && is_pointer registers size
+operation_fits registers blocks behind (operations.Die p) = is_pointer registers p
+operation_fits registers blocks behind (operations.Free p) = is_pointer registers p
+operation_fits registers blocks behind (operations.MayFail r) = is_register registers r types.Int
+operation_fits registers blocks behind (operations.Limit a b) = is_pointer registers a && is_pointer registers b
 
 abbrev pub code_fits : List IntegerType → List ℕ → List Instruction → Bool
 code_fits registers blocks [] = true

@@ -5,6 +5,7 @@ pub mod Fine
 pub mod Frames
 pub mod CodeThread
 pub mod Running
+pub mod FlowThread
 pub mod Flat
 pub mod Same
 pub mod Nodes
@@ -18,3 +19,5 @@ pub mod Activations
 pub mod Kinds
 pub mod GotoThreads
 pub mod UnrolledCode
+pub mod Static
+pub mod Allocations

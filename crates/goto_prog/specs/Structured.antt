@@ -9,6 +9,10 @@ use Rattle.c_values.specs.Variables.{Variables, zeros, put_at, first_variables, 
 use Rattle.actions.specs.declared.action.Action.TheVariants.{End, Exit}
 use Rattle.actions.specs.declared.action.Next.TheVariants.{Ended, Blocked, Broken}
 use Rattle.actions.specs.Behaviour.{Behaviour, Program, Thread, word_64}
+use Rattle.goto_prog.specs.declared.code.Condition.TheVariants as checks
+use Rattle.goto_prog.specs.declared.code.Instruction.{Instruction}
+use Rattle.goto_prog.specs.declared.code.Operation.{Operation}
+use Rattle.goto_prog.specs.declared.code.Operation.TheVariants as operations
 use Rattle.goto_prog.specs.Meaning.{Memory, Given, Reading, at, operates}
 use Rattle.goto_prog.specs.Threads.{Calls, acting, ask, final}
 use Rattle.goto_prog.specs.Nodes.{Nodes, done, plain, repeats, Routine}
@@ -41,6 +45,15 @@ round_count rotated k = if rotated then k - 1 else k
 abbrev pub passed : Bool → Class → (line function : ℕ) → Behaviour
 passed assertions class line function = if assertions then final (Broken class line function) else final Blocked
 
+-- what an instruction that asks for the bounds does under them: whether an allocation fails is drawn where it may, and no more bytes are allocated at once than the limit
+abbrev pub resolved : Limits → Operation → Operation
+resolved limits (operations.MayFail r) = if limits.malloc_may_fail then operations.Draw r 1 else operations.Constant r 0
+resolved limits (operations.Limit a b) = operations.Check (checks.AtMost a b limits.malloc_limit)
+resolved limits o = o
+
+abbrev pub resolved_in : Bounded → Instruction → Instruction
+resolved_in b i = record i { operation = resolved b.limits i.operation }
+
 -- ---- nodes
 
 -- a loop of at most so many rounds: `round again` does one, and where the loop goes on, it goes on with `again`; a further round passes the loop's bound
@@ -52,7 +65,7 @@ module _ (b : Bounded) (o : Reading Behaviour) where
   -- the meanings of the places of nodes and of later places; behind the nodes of a loop comes its next round
   abbrev pub nodes_before : Nodes → (later : List (Memory → Behaviour)) → List (Memory → Behaviour)
   nodes_before done later = later
-  nodes_before (plain i rest) later = let behind = nodes_before rest later in operates o b.strict 0 i.line i.function i.operation behind ∷ behind
+  nodes_before (plain i rest) later = let behind = nodes_before rest later in operates o b.strict 0 i.line i.function (resolved b.limits i.operation) behind ∷ behind
   nodes_before (repeats line f n rotated body rest) later =
       let behind = nodes_before rest later in
       rounds b.limits.assertions line f (λ again. at o (nodes_before body (again ∷ behind)) 0) (round_count rotated (tests b f n)) ∷ behind

@@ -6,14 +6,15 @@ use Rattle.words.specs.declared.check.Class.TheVariants.{Unwind, Recursion}
 use Rattle.actions.specs.declared.action.Action.TheVariants.{End, Exit}
 use Rattle.actions.specs.declared.action.Next.TheVariants.{Ended, Blocked, Broken}
 use Rattle.actions.specs.Behaviour.{Behaviour, Program, IsBehaviour, IsThread, word_64}
+use Rattle.goto_prog.specs.declared.code.Instruction.{Instruction}
 use Rattle.goto_prog.specs.declared.walker.Status.TheVariants as statuses
 use Rattle.goto_prog.specs.declared.walker.Status.{Status}
 use Rattle.goto_prog.specs.Meaning.{Memory, Given, at, received}
 use Rattle.goto_prog.specs.Threads.{Calls, acting, final}
-use Rattle.goto_prog.specs.Fine.{AreFine, AreFineCalls, final_behaves, ask_behaves, choice_fine, at_fine, operation_fine}
+use Rattle.goto_prog.specs.Fine.{AreFine, AreFineCalls, final_behaves, ask_behaves, choice_fine, at_fine, operation_fine, rest_fine}
 use Rattle.goto_prog.specs.Nodes.{Nodes, done, plain, repeats, Routine, nodes_of}
-use Rattle.goto_prog.specs.Structured.{Bounded, passed, rounds, round_count, tests, nodes_before, enters, entry_memory, opened, activation, first_fuel, first_left, leaves, leaves_with, value_of, runs_at, function_behaviour, function_thread, bounded_program}
-use Rattle.goto_prog.specs.Walking.{LoopLevel, Cursor, levels_behind, places_from, does_from}
+use Rattle.goto_prog.specs.Structured.{Bounded, resolved, passed, rounds, round_count, tests, nodes_before, enters, entry_memory, opened, activation, first_fuel, first_left, leaves, leaves_with, value_of, runs_at, function_behaviour, function_thread, bounded_program}
+use Rattle.goto_prog.specs.Walking.{LoopLevel, Cursor, Activation, next_place, next_instruction, levels_behind, places_from, does_from, does_by_instruction, does_on}
 use Rattle.goto_prog.specs.Walks.{total, Waiting, Walk, bounded, calls_with, closed, hands_to, ends_of, does_by, walks, thread_of}
 
 module _ (program : Program) (b : Bounded) where
@@ -30,7 +31,7 @@ module _ (program : Program) (b : Bounded) where
     nodes_fine done later fine = fine
     nodes_fine (plain i rest) later fine =
         let behind = nodes_fine rest later fine in
-        ((λ m. operation_fine program calls hands fine_calls fine_hands b.strict 0 i.line i.function i.operation (nodes_before b (acting calls hands) rest later) m behind), behind)
+        ((λ m. operation_fine program calls hands fine_calls fine_hands b.strict 0 i.line i.function (resolved b.limits i.operation) (nodes_before b (acting calls hands) rest later) m behind), behind)
     nodes_fine (repeats line f n rotated body rest) later fine =
         let o = acting calls hands in
         let behind = nodes_fine rest later fine in (
@@ -52,8 +53,20 @@ module _ (program : Program) (b : Bounded) where
           behind,
         )
 
+    places_are_fine : (p : Cursor) → AreFine program (places_from b (acting calls hands) p)
+    places_are_fine p = nodes_fine (nodes_of p.nodes) (levels_behind b (acting calls hands) p.levels) (levels_fine p.levels)
+
     place_fine : (p : Cursor) (m : Memory) → IsBehaviour program (does_from b (acting calls hands) p m)
-    place_fine p m = at_fine program calls hands fine_calls fine_hands (places_from b (acting calls hands) p) 0 m (nodes_fine (nodes_of p.nodes) (levels_behind b (acting calls hands) p.levels) (levels_fine p.levels))
+    place_fine p m = at_fine program calls hands fine_calls fine_hands (places_from b (acting calls hands) p) 0 m (places_are_fine p)
+
+    instruction_fine : (words : ℕ) (a : Activation) (i : Option Instruction) → IsBehaviour program (does_by_instruction b calls hands words a i)
+    instruction_fine words a None = place_fine a.place a.working.memory
+    instruction_fine words a (Some i) =
+        rest_fine program calls hands fine_calls fine_hands words b.strict 0 i.line i.function i.operation (places_from b (acting calls hands) (next_place a.place)) a.working.memory (places_are_fine (next_place a.place))
+
+    on_fine : (words : ℕ) (a : Activation) → IsBehaviour program (does_on b calls hands words a)
+    on_fine zero a = place_fine a.place a.working.memory
+    on_fine (suc k) a = instruction_fine (suc k) a (next_instruction b a.place.nodes)
 
   enters_fine : (p : Option Routine) (calls : Calls) (arguments : List (List ℕ)) (follows : Given → Behaviour) → AreFineCalls program calls → ((given : Given) → IsBehaviour program (follows given)) → IsBehaviour program (enters b p calls arguments follows)
   enters_fine None calls arguments follows fine after = final_behaves program Blocked tt
@@ -87,6 +100,10 @@ does_fine program statuses.Running w =
     let b = bounded w in
     place_fine program b (calls_with b w.left) (hands_to b (ends_of w) w.left w.below) (activation_fine program b (suc (total w.left)) w.left)
     (λ given. hands_fine program b (ends_of w) (λ more. leaves_fine program b w.first w.number w.line (value_of more)) w.left w.below given) w.top.place w.top.working.memory
+does_fine program (statuses.Drawing words) w =
+    let b = bounded w in
+    on_fine program b (calls_with b w.left) (hands_to b (ends_of w) w.left w.below) (activation_fine program b (suc (total w.left)) w.left)
+    (λ given. hands_fine program b (ends_of w) (λ more. leaves_fine program b w.first w.number w.line (value_of more)) w.left w.below given) words w.top
 does_fine program (statuses.Leaving v) w = leaves_fine program (bounded w) w.first w.number w.line v
 does_fine program (statuses.Over v) w = final_behaves program (Ended (word_64 v)) tt
 

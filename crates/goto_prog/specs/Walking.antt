@@ -1,5 +1,5 @@
 -- Where code of functions stands, and what it does from there.
-use Rattle.std.specs.Prelude.{◌≡◌, ◌<◌, ℕ, zero, suc, ◌+◌, ◌-◌, Bool, true, false, ◌&&◌, nat_le, nat_lt, List, [], ◌∷◌, length, Option, Some, None}
+use Rattle.std.specs.Prelude.{◌≡◌, ◌<◌, ◌≤◌, option_map, ℕ, zero, suc, ◌+◌, ◌-◌, Bool, true, false, ◌&&◌, nat_le, nat_lt, List, [], ◌∷◌, length, Option, Some, None}
 use Rattle.c_types.specs.declared.integers.IntegerType.{IntegerType}
 use Rattle.c_types.specs.declared.integers.IntegerType.TheVariants as types
 use Rattle.actions.specs.declared.action.Answer.{Answer}
@@ -12,13 +12,15 @@ use Rattle.goto_prog.specs.declared.nodes.Node.TheVariants as nodes
 use Rattle.goto_prog.specs.declared.code.Instruction.{Instruction}
 use Rattle.goto_prog.specs.declared.code.Operation.{Operation}
 use Rattle.goto_prog.specs.declared.code.Operation.TheVariants as operations
-use Rattle.goto_prog.specs.Meaning.{Memory, Given, Reading, at, arguments_of, received}
+use Rattle.goto_prog.specs.declared.activation.Received.{Received}
+use Rattle.goto_prog.specs.declared.activation.Received.TheVariants as receiveds
+use Rattle.goto_prog.specs.Meaning.{Memory, Given, Reading, at, operates_on, arguments_of, received}
 use Rattle.goto_prog.specs.Threads.{Calls, acting, final}
 use Rattle.goto_prog.specs.Fitting.{is_register}
 use Rattle.goto_prog.specs.Frames.{Working}
 use Rattle.goto_prog.specs.Running.{acts, is_act}
 use Rattle.goto_prog.specs.Nodes.{view_procedure, Nodes, done, plain, repeats, nodes_of, node_count, nodes_fit}
-use Rattle.goto_prog.specs.Structured.{entry_memory, Bounded, rounds, round_count, tests, nodes_before}
+use Rattle.goto_prog.specs.Structured.{entry_memory, Bounded, resolved, resolved_in, rounds, round_count, tests, nodes_before}
 
 -- a loop that code stands in: its line and function, how many rounds more it may have, its nodes, and the nodes behind it
 pub record LoopLevel : Type 0 where
@@ -118,7 +120,7 @@ module _ (b : Bounded) (w : ℕ → ℕ) where
 
   abbrev pub nodes_weights : Nodes → (later : List ℕ) → List ℕ
   nodes_weights done later = later
-  nodes_weights (plain i rest) later = let behind = nodes_weights rest later in step_weight i.operation (first_of behind) ∷ behind
+  nodes_weights (plain i rest) later = let behind = nodes_weights rest later in step_weight (resolved b.limits i.operation) (first_of behind) ∷ behind
   nodes_weights (repeats line f n rotated body rest) later =
       let behind = nodes_weights rest later in
       suc (round_weight (λ again. first_of (nodes_weights body (again ∷ behind))) (first_of behind) (round_count rotated (tests b f n))) ∷ behind
@@ -145,15 +147,29 @@ IsActivation a = place_fits a.working.types a.working.sizes a.place ≡ true
 abbrev pub does : Bounded → Calls → (Given → Behaviour) → Activation → Behaviour
 does b calls hands a = does_from b (acting calls hands) a.place a.working.memory
 
--- what it does where no call does anything and nothing becomes of what it hands over
-abbrev pub lone : Bounded → Activation → Behaviour
-lone b a = does b (λ caller f line arguments follows. final Blocked) (λ given. final Blocked) a
-
 -- the instruction that is next, if one is
 abbrev pub instruction_at : List Node → Option Instruction
 instruction_at [] = None
 instruction_at (nodes.Plain i ∷ rest) = Some i
 instruction_at (_ ∷ rest) = None
+
+-- it as the bounds have it
+abbrev pub next_instruction : Bounded → List Node → Option Instruction
+next_instruction b ns = option_map (resolved_in b) (instruction_at ns)
+
+-- what it does by this instruction and behind it, if there is one, where so many words of it have been drawn
+abbrev pub does_by_instruction : Bounded → Calls → (Given → Behaviour) → (words : ℕ) → Activation → Option Instruction → Behaviour
+does_by_instruction b calls hands words a None = does b calls hands a
+does_by_instruction b calls hands words a (Some i) = operates_on (acting calls hands) words b.strict 0 i.line i.function i.operation (places_from b (acting calls hands) (next_place a.place)) a.working.memory
+
+-- what it does where so many words of the instruction that is next have been drawn
+abbrev pub does_on : Bounded → Calls → (Given → Behaviour) → (words : ℕ) → Activation → Behaviour
+does_on b calls hands zero a = does b calls hands a
+does_on b calls hands (suc k) a = does_by_instruction b calls hands (suc k) a (next_instruction b a.place.nodes)
+
+-- so where no call does anything and nothing becomes of what it hands over
+abbrev pub lone_on : Bounded → (words : ℕ) → Activation → Behaviour
+lone_on b words a = does_on b (λ caller f line arguments follows. final Blocked) (λ given. final Blocked) words a
 
 -- a function at its start with these arguments
 abbrev pub entry : Procedure → List (List ℕ) → Activation
@@ -171,7 +187,22 @@ pub record GoesOn (b : Bounded) (old new : Activation) : Type 0 where
 pub record Stops (b : Bounded) (old new : Activation) (next : Next) : Type 0 where
   pub unchanged : new ≡ old
   pub next_is : (calls : Calls) (hands : Given → Behaviour) → next ≡ does b calls hands old []
-  pub acting : is_act next ≡ true → acts (instruction_at old.place.nodes) ≡ true
+  pub acting : is_act next ≡ true → acts 0 (next_instruction b old.place.nodes) old.working.memory ≡ true
+
+-- this is next where so many words have been drawn
+pub record StopsOn (b : Bounded) (words : ℕ) (a : Activation) (next : Next) : Type 0 where
+  pub next_is : (calls : Calls) (hands : Given → Behaviour) → next ≡ does_on b calls hands words a []
+  pub acting : is_act next ≡ true → acts words (next_instruction b a.place.nodes) a.working.memory ≡ true
+
+-- it goes on behind the instruction of which so many words have been drawn
+pub record GoesOnWith (b : Bounded) (words : ℕ) (old new : Activation) : Type 0 where
+  pub same : (calls : Calls) (hands : Given → Behaviour) → does b calls hands new ≡ does_on b calls hands words old
+  pub falls : (w : ℕ → ℕ) → place_weight b w new.place ≤ place_weight b w old.place
+
+-- one or the other, where so many words of the instruction that is next have been drawn
+abbrev pub StepsOn : Bounded → (words : ℕ) → (old new : Activation) → Option Next → Type 0
+StepsOn b words old new None = GoesOnWith b words old new
+StepsOn b words old new (Some next) = (new ≡ old) × StopsOn b words old next
 
 -- behind the instruction that is next
 abbrev pub stepped_over : Activation → Activation
@@ -191,7 +222,8 @@ pub record HandsOver (b : Bounded) (a : Activation) (given : Given) : Type 0 whe
   pub same : (calls : Calls) (hands : Given → Behaviour) → does b calls hands a ≡ hands given
   pub falls : (w : ℕ → ℕ) → 0 < place_weight b w a.place
 
--- it has taken an answer and goes on, or this has ended the process
-abbrev pub IsReceived : Bounded → (old new : Activation) → Answer → Bool → Type 0
-IsReceived b old new a false = (calls : Calls) (hands : Given → Behaviour) → does b calls hands new ≡ after (does b calls hands old) a
-IsReceived b old new a true = (calls : Calls) (hands : Given → Behaviour) → final (Ended (word_64 0)) ≡ after (does b calls hands old) a
+-- it has taken an answer and goes on, or this has ended the process, or so many words of its instruction have been drawn
+abbrev pub IsReceived : Bounded → (words : ℕ) → (old new : Activation) → Answer → Received → Type 0
+IsReceived b words old new a receiveds.GoesOn = (calls : Calls) (hands : Given → Behaviour) → does b calls hands new ≡ after (does_on b calls hands words old) a
+IsReceived b words old new a receiveds.Ends = (calls : Calls) (hands : Given → Behaviour) → final (Ended (word_64 0)) ≡ after (does_on b calls hands words old) a
+IsReceived b words old new a (receiveds.Draws more) = (calls : Calls) (hands : Given → Behaviour) → does_on b calls hands more new ≡ after (does_on b calls hands words old) a

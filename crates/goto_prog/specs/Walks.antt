@@ -7,6 +7,8 @@ use Rattle.actions.specs.declared.action.Next.{Next}
 use Rattle.actions.specs.declared.action.Next.TheVariants.{Ended}
 use Rattle.actions.specs.Behaviour.{Behaviour, Thread, word_64}
 use Rattle.goto_prog.specs.declared.nodes.Procedure.{Procedure}
+use Rattle.goto_prog.specs.declared.activation.Received.{Received}
+use Rattle.goto_prog.specs.declared.activation.Received.TheVariants as receiveds
 use Rattle.goto_prog.specs.declared.walker.Status.{Status}
 use Rattle.goto_prog.specs.declared.walker.Status.TheVariants as statuses
 use Rattle.goto_prog.specs.Meaning.{Given, received}
@@ -15,7 +17,7 @@ use Rattle.goto_prog.specs.Fitting.{is_register}
 use Rattle.goto_prog.specs.Running.{is_act}
 use Rattle.goto_prog.specs.Nodes.{Routine, view_procedures, routines_fit}
 use Rattle.goto_prog.specs.Structured.{Bounded, activation, opened, leaves, leaves_with, bounded_program}
-use Rattle.goto_prog.specs.Walking.{Activation, does, does_from, place_weight, nodes_weights, first_of, Stops}
+use Rattle.goto_prog.specs.Walking.{Activation, does, does_on, does_from, place_weight, nodes_weights, first_of, StopsOn}
 
 -- an activation that waits for what a call hands over: the function that it called, how many activations of that might be opened before, and where the bytes are put
 pub record Waiting : Type 0 where
@@ -71,10 +73,21 @@ hands_to b ends left (w ∷ ws) given =
 abbrev pub ends_of : Walk → Given → Behaviour
 ends_of w = leaves w.first w.number w.line
 
+-- what it does where so many words of the instruction of the activation on top have been drawn
+abbrev pub top_on : Walk → (words : ℕ) → Behaviour
+top_on w words = does_on (bounded w) (calls_with (bounded w) w.left) (hands_to (bounded w) (ends_of w) w.left w.below) words w.top
+
 abbrev pub does_by : Status → Walk → Behaviour
 does_by statuses.Running w = does (bounded w) (calls_with (bounded w) w.left) (hands_to (bounded w) (ends_of w) w.left w.below) w.top
+does_by (statuses.Drawing words) w = top_on w words
 does_by (statuses.Leaving v) w = leaves_with w.first w.number w.line v
 does_by (statuses.Over v) w = final (Ended (word_64 v))
+
+-- how it stands when the activation on top has taken an answer
+abbrev pub status_behind : Received → Status
+status_behind receiveds.GoesOn = statuses.Running
+status_behind (receiveds.Draws words) = statuses.Drawing words
+status_behind receiveds.Ends = statuses.Over 0
 
 abbrev pub walks : Walk → Behaviour
 walks w = does_by w.status w
@@ -101,6 +114,7 @@ waiting_weight b left (w ∷ ws) = let now = closed left w in place_weight b (ca
 
 abbrev pub weight_by : Status → Walk → ℕ
 weight_by statuses.Running w = place_weight (bounded w) (calls_weight (bounded w) w.left) w.top.place + waiting_weight (bounded w) w.left w.below
+weight_by (statuses.Drawing words) w = suc (place_weight (bounded w) (calls_weight (bounded w) w.left) w.top.place + waiting_weight (bounded w) w.left w.below)
 weight_by (statuses.Leaving v) w = 0
 weight_by (statuses.Over v) w = 0
 
@@ -111,7 +125,8 @@ weight w = weight_by w.status w
 
 -- it stops at what is next; at an action the activation on top does
 abbrev pub IsHalted : Status → Walk → Next → Type 0
-IsHalted statuses.Running w next = is_act next ≡ true → Stops (bounded w) w.top w.top next
+IsHalted statuses.Running w next = is_act next ≡ true → StopsOn (bounded w) 0 w.top next
+IsHalted (statuses.Drawing words) w next = is_act next ≡ true → StopsOn (bounded w) words w.top next
 IsHalted (statuses.Leaving v) w next = Unit {0}
 IsHalted (statuses.Over v) w next = Unit {0}
 

@@ -1,31 +1,27 @@
 //! The activation of a function: where its code stands, and its registers and blocks.
 
-ghost use Rattle.std.specs.Prelude.{[], ◌≡◌, ◌==◌, ◌+◌, ◌≤◌, ◌<◌, ◌^◌, nat_le, nat_lt, length, slice_index_or, true, IfOk, OnErr, OnOk, Some, None, if◌then◌else◌, option_map};
-ghost use Rattle.goto_prog.specs.Meaning.{arguments_of, received, own_class, given_by, register, with_register, with_blocks};
-ghost use Rattle.goto_prog.specs.Fitting.{is_there, is_register, operation_fits};
-ghost use Rattle.goto_prog.specs.Nodes.{nodes_of, nodes_fit, repeats, routine_fits, view_procedure};
-ghost use Rattle.goto_prog.specs.Running.{is_calculation, is_action, acts};
-ghost use Rattle.goto_prog.specs.Frames.{first_space};
+ghost use Rattle.std.specs.Prelude.{[], ◌≡◌, ◌==◌, ◌+◌, ◌*◌, ◌≤◌, ◌<◌, ◌^◌, nat_le, nat_lt, length, true, IfOk, OnErr, OnOk, MatchOption, Some, None, if◌then◌else◌, option_map};
+ghost use Rattle.goto_prog.specs.Meaning.{arguments_of, received, first_count, action_of, answered_with, own_class, given_by, register, with_blocks};
+ghost use Rattle.goto_prog.specs.Fitting.{is_there, is_register, is_pointer, operation_fits};
+ghost use Rattle.goto_prog.specs.Nodes.{nodes_of, repeats, routine_fits, view_procedure};
+ghost use Rattle.goto_prog.specs.Running.{is_calculation, is_exchange, asks_bounds, acts, acts_on};
 ghost use Rattle.goto_prog.specs.ProgramViews.{bounded_by};
-ghost use Rattle.goto_prog.specs.Walking.{next_place, landed, place_total, place_fits, instruction_at, stepped_over, entry, lone, IsReceived, nodes_behind, first_level, next_round, into_loop, GoesOn, Stops, CallsFunction, HandsOver};
+ghost use Rattle.goto_prog.specs.Walking.{next_place, landed, place_total, place_fits, next_instruction, stepped_over, entry, lone_on, IsReceived, nodes_behind, first_level, next_round, into_loop, Stops, StepsOn};
 ghost use Rattle.goto_prog.specs.Activations.{Steps};
 ghost use Rattle.goto_prog.specs.Kinds.{IsFirst};
-ghost use Rattle.actions.specs.Behaviour.{accepts};
-ghost use Rattle.c_types.specs.Integers.{width};
-ghost use Rattle.core_tree.specs.Typed.{is_within};
-ghost use Rattle.c_values.specs.Variables.{put_bytes};
+ghost use Rattle.actions.specs.Behaviour.{shape_of, has_shape, accepts};
+ghost use Rattle.c_values.specs.Variables.{low_bytes, put_bytes, word_count, drawn_count};
 ghost use Rattle.goto_prog.specs.CursorViews.{level_of};
 
-use crate::answers::{bytes_in, word_of};
+use crate::answers::word_of;
 use crate::block::Block;
 use crate::code::{Condition, Instruction, Operation};
 use crate::cursor::{Cursor, LoopLevel};
 use crate::frame::Frame;
 use crate::nodes::{Kind, Node, Procedure};
 use crate::program::Program;
-use actions::{Action, Answer, Bytes, DrawBits, Next};
+use actions::{Action, Answer, DrawBits, Next};
 use c_types::IntegerType;
-use c_values::pointer_to;
 use std::alloc::{AllocError, Global};
 use std::marker::Model;
 use words::Class;
@@ -73,6 +69,14 @@ pub enum Stepped {
     HandsOver(Option<Block>),
 }
 
+/// What an answer does: it goes on, the process has ended, or so many words of an instruction have been drawn.
+#[derive(Clone, Copy)]
+pub enum Received {
+    GoesOn,
+    Ends,
+    Draws(u32),
+}
+
 impl<'a> Activation<'a> {
     // Goes past the next place, and to the place behind `count` others.
     #[tactic(auto, using(crate::proofs::Places::fits_next, crate::proofs::Places::fits_landed))]
@@ -93,7 +97,7 @@ impl<'a> Activation<'a> {
     // An instruction that sets a register or a block.
     #[tactic(auto, using(crate::proofs::WalkFits::calculation_here, crate::proofs::WalkSteps::goes_calculated, crate::proofs::WalkSteps::stops_calculated))]
     fn calculation(&mut self, program: &Program<'a>, i: Instruction) -> Result<Stepped, AllocError>
-        requires found { instruction_at self.old.place.nodes ≡ Some i }
+        requires found { next_instruction (bounded_by program.now) self.old.place.nodes ≡ Some i }
         requires fits { operation_fits self.old.working.types self.old.working.sizes (place_total (next_place self.old.place)) i.operation ≡ true }
         requires calculation { is_calculation i.operation ≡ true }
         ensures steps { IfOk result (Steps (bounded_by program.now) self.old self.new) }
@@ -110,7 +114,7 @@ impl<'a> Activation<'a> {
     // The check that it breaks by itself in strict code.
     #[tactic(auto, using(crate::proofs::WalkFits::calculation_here))]
     fn broken_calculation(&self, program: &Program<'a>, i: Instruction) -> Option<Class>
-        requires found { instruction_at self.now.place.nodes ≡ Some i }
+        requires found { next_instruction (bounded_by program.now) self.now.place.nodes ≡ Some i }
         requires fits { operation_fits self.now.working.types self.now.working.sizes (place_total (next_place self.now.place)) i.operation ≡ true }
         requires calculation { is_calculation i.operation ≡ true }
         ensures { result ≡ (if (program.now).strict then own_class i.operation self.now.working.memory else None) }
@@ -125,7 +129,7 @@ impl<'a> Activation<'a> {
     // An explicit check.
     #[tactic(auto, using(crate::proofs::WalkFits::check_here, crate::proofs::WalkSteps::goes_check, crate::proofs::WalkSteps::stops_check))]
     fn check(&mut self, program: &Program<'a>, i: Instruction, condition: Condition) -> Stepped
-        requires found { instruction_at self.old.place.nodes ≡ Some i }
+        requires found { next_instruction (bounded_by program.now) self.old.place.nodes ≡ Some i }
         requires fits { operation_fits self.old.working.types self.old.working.sizes (place_total (next_place self.old.place)) i.operation ≡ true }
         requires is { i.operation ≡ Operation.Check condition }
         ensures { Steps (bounded_by program.now) self.old self.new result }
@@ -143,7 +147,7 @@ impl<'a> Activation<'a> {
     // An assertion.
     #[tactic(auto, using(crate::proofs::WalkFits::assert_here, crate::proofs::WalkSteps::goes_assert, crate::proofs::WalkSteps::stops_assert))]
     fn assertion(&mut self, program: &Program<'a>, i: Instruction, operand: usize) -> Stepped
-        requires found { instruction_at self.old.place.nodes ≡ Some i }
+        requires found { next_instruction (bounded_by program.now) self.old.place.nodes ≡ Some i }
         requires fits { operation_fits self.old.working.types self.old.working.sizes (place_total (next_place self.old.place)) i.operation ≡ true }
         requires is { i.operation ≡ Operation.Assert operand }
         ensures { Steps (bounded_by program.now) self.old self.new result }
@@ -160,7 +164,7 @@ impl<'a> Activation<'a> {
     // An assumption.
     #[tactic(auto, using(crate::proofs::WalkFits::assume_here, crate::proofs::WalkSteps::goes_assume, crate::proofs::WalkSteps::stops_assume))]
     fn assumption(&mut self, program: &Program<'a>, i: Instruction, operand: usize) -> Stepped
-        requires found { instruction_at self.old.place.nodes ≡ Some i }
+        requires found { next_instruction (bounded_by program.now) self.old.place.nodes ≡ Some i }
         requires fits { operation_fits self.old.working.types self.old.working.sizes (place_total (next_place self.old.place)) i.operation ≡ true }
         requires is { i.operation ≡ Operation.Assume operand }
         ensures { Steps (bounded_by program.now) self.old self.new result }
@@ -177,7 +181,7 @@ impl<'a> Activation<'a> {
     // A jump.
     #[tactic(auto, using(crate::proofs::WalkFits::skip_here, crate::proofs::WalkSteps::goes_skip))]
     fn skip(&mut self, program: &Program<'a>, i: Instruction, count: usize) -> Stepped
-        requires found { instruction_at self.old.place.nodes ≡ Some i }
+        requires found { next_instruction (bounded_by program.now) self.old.place.nodes ≡ Some i }
         requires fits { operation_fits self.old.working.types self.old.working.sizes (place_total (next_place self.old.place)) i.operation ≡ true }
         requires is { i.operation ≡ Operation.Skip count }
         ensures { Steps (bounded_by program.now) self.old self.new result }
@@ -196,7 +200,7 @@ impl<'a> Activation<'a> {
         operand: usize,
         count: usize,
     ) -> Stepped
-        requires found { instruction_at self.old.place.nodes ≡ Some i }
+        requires found { next_instruction (bounded_by program.now) self.old.place.nodes ≡ Some i }
         requires fits { operation_fits self.old.working.types self.old.working.sizes (place_total (next_place self.old.place)) i.operation ≡ true }
         requires is { i.operation ≡ Operation.SkipIfZero operand count }
         ensures { Steps (bounded_by program.now) self.old self.new result }
@@ -213,7 +217,7 @@ impl<'a> Activation<'a> {
     // A call: it goes on behind it with what the function hands over.
     #[tactic(auto, using(crate::proofs::WalkSteps::calls_here))]
     fn call(&self, program: &Program<'a>, plan: CallPlan) -> Stepped
-        requires found { instruction_at self.now.place.nodes ≡ Some plan.instruction }
+        requires found { next_instruction (bounded_by program.now) self.now.place.nodes ≡ Some plan.instruction }
         requires fits { operation_fits self.now.working.types self.now.working.sizes (place_total (next_place self.now.place)) plan.instruction.operation ≡ true }
         requires is { plan.instruction.operation ≡ Operation.Call plan.callee plan.first plan.count plan.into plan.returned }
         ensures { Steps (bounded_by program.now) self.now self.now result }
@@ -230,7 +234,7 @@ impl<'a> Activation<'a> {
         i: Instruction,
         value: Option<usize>,
     ) -> Result<Stepped, AllocError>
-        requires found { instruction_at self.now.place.nodes ≡ Some i }
+        requires found { next_instruction (bounded_by program.now) self.now.place.nodes ≡ Some i }
         requires fits { operation_fits self.now.working.types self.now.working.sizes (place_total (next_place self.now.place)) i.operation ≡ true }
         requires is { i.operation ≡ Operation.Return value }
         ensures { IfOk result (Steps (bounded_by program.now) self.now self.now) }
@@ -242,7 +246,7 @@ impl<'a> Activation<'a> {
 
     // The instruction that is next.
     fn perform(&mut self, program: &Program<'a>, i: Instruction) -> Result<Stepped, AllocError>
-        requires found { instruction_at self.old.place.nodes ≡ Some i }
+        requires found { next_instruction (bounded_by program.now) self.old.place.nodes ≡ Some i }
         requires fits { operation_fits self.old.working.types self.old.working.sizes (place_total (next_place self.old.place)) i.operation ≡ true }
         ensures steps { IfOk result (Steps (bounded_by program.now) self.old self.new) }
         ensures err { OnErr result (self.new ≡ self.old) }
@@ -277,7 +281,16 @@ impl<'a> Activation<'a> {
             Operation::Draw { .. } => self.stop(program, i),
             Operation::ReadObject { .. } => self.stop(program, i),
             Operation::WriteObject { .. } => self.stop(program, i),
-            Operation::Exit => self.stop(program, i),
+            Operation::Read { .. } => self.stop(program, i),
+            Operation::Write { .. } => self.stop(program, i),
+            Operation::Look { .. } => self.stop(program, i),
+            Operation::Alloc { .. } => self.stop(program, i),
+            Operation::Die { .. } => self.stop(program, i),
+            Operation::Free { .. } => self.stop(program, i),
+            Operation::Fill { block, count } => Ok(self.begin_fill(program, i, block, count)),
+            Operation::Exit => Ok(Stepped::Stops(self.exit(program, i))),
+            Operation::MayFail { .. } => Ok(Stepped::Stops(self.unbounded(program, i))),
+            Operation::Limit { .. } => Ok(Stepped::Stops(self.unbounded(program, i))),
             Operation::Constant { .. } => self.calculation(program, i),
             Operation::Copy { .. } => self.calculation(program, i),
             Operation::Load { .. } => self.calculation(program, i),
@@ -290,13 +303,20 @@ impl<'a> Activation<'a> {
             Operation::Compare { .. } => self.calculation(program, i),
             Operation::IsZero { .. } => self.calculation(program, i),
             Operation::Use { .. } => self.calculation(program, i),
+            Operation::Move { .. } => self.calculation(program, i),
+            Operation::Offset { .. } => self.calculation(program, i),
+            Operation::Same { .. } => self.calculation(program, i),
+            Operation::Distance { .. } => self.calculation(program, i),
+            Operation::Relate { .. } => self.calculation(program, i),
+            Operation::Take { .. } => self.calculation(program, i),
+            Operation::Put { .. } => self.calculation(program, i),
         }
     }
 
     // A break of a class is next.
     #[tactic(auto, using(crate::proofs::WalkSteps::stops_fail))]
     fn fail(&self, program: &Program<'a>, i: Instruction, class: Class) -> Next
-        requires found { instruction_at self.now.place.nodes ≡ Some i }
+        requires found { next_instruction (bounded_by program.now) self.now.place.nodes ≡ Some i }
         requires is { i.operation ≡ Operation.Fail class }
         ensures { Stops (bounded_by program.now) self.now self.now result }
     {
@@ -304,99 +324,158 @@ impl<'a> Activation<'a> {
         Next::Broken(class, i.line, i.function)
     }
 
+    // Without bounds nothing is next.
+    #[tactic(auto, using(crate::proofs::WalkSteps::stops_unbounded))]
+    fn unbounded(&self, program: &Program<'a>, i: Instruction) -> Next
+        requires found { next_instruction (bounded_by program.now) self.now.place.nodes ≡ Some i }
+        requires asks { asks_bounds i.operation ≡ true }
+        ensures { Stops (bounded_by program.now) self.now self.now result }
+    {
+        let _ = program;
+        let _ = i;
+        Next::Blocked
+    }
+
+    // The action of an operation that makes one and goes on behind it.
+    fn action(&self, operation: Operation) -> Result<Action, AllocError>
+        requires exchange { is_exchange operation ≡ true }
+        requires fits { operation_fits self.now.working.types self.now.working.sizes 0 operation ≡ true }
+        ensures { IfOk result (λ a. a ≡ action_of operation self.now.working.memory) }
+    {
+        self.frame.action(operation)
+    }
+
+    // Takes the answer to it.
+    fn take_answer(&mut self, operation: Operation, answer: &Answer)
+        requires exchange { is_exchange operation ≡ true }
+        requires fits { operation_fits self.old.working.types self.old.working.sizes 0 operation ≡ true }
+        requires shape { has_shape (shape_of (action_of operation self.old.working.memory)) answer.now ≡ true }
+        ensures { self.new ≡ record self.old { working = record self.old.working { memory = answered_with operation self.old.working.memory answer.now } } }
+    {
+        self.frame.take_answer(operation, answer);
+    }
+
+    // How many bits the next word has that is drawn for the first bytes of a block, as many as a register says, where so many
+    // words have been drawn; none where no word is left.
+    fn next_word(&self, block: usize, count: usize, words: u32) -> Option<u32>
+        requires block { nat_lt block (length self.now.working.sizes) ≡ true }
+        requires count { is_pointer self.now.working.types count ≡ true }
+        ensures { MatchOption result (word_count (first_count self.now.working.memory block count) ≤ words) (λ bits. (words < word_count (first_count self.now.working.memory block count)) × (bits ≡ 8 * drawn_count (first_count self.now.working.memory block count) (8 * words)) × (1 ≤ bits) × (bits ≤ 64)) }
+    {
+        self.frame.next_word(block, count, words)
+    }
+
+    // Takes the word that is next there.
+    fn fill_word(&mut self, block: usize, count: usize, words: u32, bits: u64)
+        requires block { nat_lt block (length self.old.working.sizes) ≡ true }
+        requires count { is_pointer self.old.working.types count ≡ true }
+        requires more { words < word_count (first_count self.old.working.memory block count) }
+        ensures is { self.new ≡ record self.old { working = record self.old.working { memory = with_blocks self.old.working.memory (put_bytes self.old.working.memory.blocks block (8 * words) (low_bytes (drawn_count (first_count self.old.working.memory block count) (8 * words)) bits)) } } }
+        ensures same { first_count self.new.working.memory block count ≡ first_count self.old.working.memory block count }
+        ensures few { words + 1 < 2 ^ 32 }
+    {
+        self.frame.fill_word(block, count, words, bits);
+    }
+
     // An action is next.
+    #[tactic(auto, using(crate::proofs::WalkFits::exchange_here, crate::proofs::WalkSteps::stops_exchange))]
     fn stop(&self, program: &Program<'a>, i: Instruction) -> Result<Stepped, AllocError>
-        requires found { instruction_at self.now.place.nodes ≡ Some i }
+        requires found { next_instruction (bounded_by program.now) self.now.place.nodes ≡ Some i }
         requires fits { operation_fits self.now.working.types self.now.working.sizes (place_total (next_place self.now.place)) i.operation ≡ true }
-        requires action { is_action i.operation ≡ true }
+        requires exchange { is_exchange i.operation ≡ true }
         ensures { IfOk result (Steps (bounded_by program.now) self.now self.now) }
     {
-        let next = match i.operation {
-            Operation::Draw { into, bits } => self.draw(program, i, into, bits),
-            Operation::ReadObject {
-                block,
-                at,
-                object,
-                offset,
-                count,
-            } => self.read_object(program, i, (block, at), (object, offset), count),
-            Operation::WriteObject {
-                object,
-                offset,
-                block,
-                at,
-                count,
-            } => self.write_object(program, i, (object, offset), (block, at), count)?,
-            Operation::Exit => self.exit(program, i),
-            _ => unreachable!(),
-        };
-        Ok(Stepped::Stops(next))
-    }
-
-    // A draw is next.
-    #[tactic(auto, using(crate::proofs::WalkSteps::stops_draw, crate::proofs::WalkFits::draw_here, crate::proofs::WalkFits::draw_most))]
-    fn draw(&self, program: &Program<'a>, i: Instruction, into: usize, bits: u32) -> Next
-        requires found { instruction_at self.now.place.nodes ≡ Some i }
-        requires fits { operation_fits self.now.working.types self.now.working.sizes (place_total (next_place self.now.place)) i.operation ≡ true }
-        requires is { i.operation ≡ Operation.Draw into bits }
-        ensures { Stops (bounded_by program.now) self.now self.now result }
-    {
         let _ = program;
-        let _ = into;
-        Next::Act(Action::Draw(DrawBits::new(bits)), i.line, i.function)
+        let action = self.action(i.operation)?;
+        Ok(Stepped::Stops(Next::Act(action, i.line, i.function)))
     }
 
-    // A read of a static object is next.
-    #[tactic(auto, using(crate::proofs::WalkSteps::stops_read))]
-    fn read_object(
-        &self,
+    // The next word for a block, of which so many have been drawn; where none is left it goes on.
+    #[tactic(auto, using(crate::proofs::WalkFits::fill_here, crate::proofs::WalkFits::fill_count_here))]
+    fn fill(
+        &mut self,
         program: &Program<'a>,
         i: Instruction,
-        into: (usize, u32),
-        from: (u32, u32),
-        count: u32,
-    ) -> Next
-        requires found { instruction_at self.now.place.nodes ≡ Some i }
-        requires is { i.operation ≡ Operation.ReadObject into.0 into.1 from.0 from.1 count }
-        ensures { Stops (bounded_by program.now) self.now self.now result }
+        into: (usize, usize),
+        words: u32,
+    ) -> Option<Next>
+        requires found { next_instruction (bounded_by program.now) self.old.place.nodes ≡ Some i }
+        requires fits { operation_fits self.old.working.types self.old.working.sizes (place_total (next_place self.old.place)) i.operation ≡ true }
+        requires is { i.operation ≡ Operation.Fill into.0 into.1 }
+        ensures { MatchOption result ((word_count (first_count self.old.working.memory into.0 into.1) ≤ words) × (self.new ≡ record self.old { place = landed 0 (next_place self.old.place) })) (λ n. (words < word_count (first_count self.old.working.memory into.0 into.1)) × (n ≡ Next.Act (Action.Draw (8 * drawn_count (first_count self.old.working.memory into.0 into.1) (8 * words))) i.line i.function) × (self.new ≡ self.old)) }
     {
         let _ = program;
-        let _ = into;
-        Next::Act(
-            Action::Read(pointer_to(from.0, from.1), count),
-            i.line,
-            i.function,
-        )
+        match self.next_word(into.0, into.1, words) {
+            Some(bits) => Some(Next::Act(Action::Draw(DrawBits::new(bits)), i.line, i.function)),
+            None => {
+                self.advance(0);
+                None
+            }
+        }
     }
 
-    // A write of a static object is next.
-    #[tactic(auto, using(crate::proofs::WalkSteps::stops_write, crate::proofs::WalkFits::write_here))]
-    fn write_object(
-        &self,
+    // The first word for a block.
+    fn begin_fill(
+        &mut self,
         program: &Program<'a>,
         i: Instruction,
-        into: (u32, u32),
-        from: (usize, u32),
-        count: u32,
-    ) -> Result<Next, AllocError>
-        requires found { instruction_at self.now.place.nodes ≡ Some i }
-        requires fits { operation_fits self.now.working.types self.now.working.sizes (place_total (next_place self.now.place)) i.operation ≡ true }
-        requires is { i.operation ≡ Operation.WriteObject into.0 into.1 from.0 from.1 count }
-        ensures { IfOk result (λ n. Stops (bounded_by program.now) self.now self.now n) }
+        block: usize,
+        count: usize,
+    ) -> Stepped
+        requires found { next_instruction (bounded_by program.now) self.old.place.nodes ≡ Some i }
+        requires fits { operation_fits self.old.working.types self.old.working.sizes (place_total (next_place self.old.place)) i.operation ≡ true }
+        requires is { i.operation ≡ Operation.Fill block count }
+        ensures { Steps (bounded_by program.now) self.old self.new result }
     {
-        let _ = program;
-        let bytes = self.frame.part(from.0, from.1, count)?;
-        Ok(Next::Act(
-            Action::Write(pointer_to(into.0, into.1), Bytes::new(bytes), false),
-            i.line,
-            i.function,
-        ))
+        match self.fill(program, i, (block, count), 0) {
+            Some(next) => Stepped::Stops(next),
+            None => Stepped::GoesOn,
+        }
+    }
+
+    // A further word for a block.
+    fn fill_on(
+        &mut self,
+        program: &Program<'a>,
+        i: Instruction,
+        into: (usize, usize),
+        words: u32,
+    ) -> Option<Next>
+        requires found { next_instruction (bounded_by program.now) self.old.place.nodes ≡ Some i }
+        requires fits { operation_fits self.old.working.types self.old.working.sizes (place_total (next_place self.old.place)) i.operation ≡ true }
+        requires is { i.operation ≡ Operation.Fill into.0 into.1 }
+        ensures { StepsOn (bounded_by program.now) words self.old self.new result }
+    {
+        self.fill(program, i, into, words)
+    }
+
+    /// Goes on where so many words of the instruction that is next have been drawn, or this is next.
+    pub fn draw_on(&mut self, program: &Program<'a>, words: u32) -> Option<Next>
+        ensures { StepsOn (bounded_by program.now) words self.old self.new result }
+    {
+        match self.first() {
+            Some(Kind::Plain(i)) => self.draw_on_at(program, program.resolved(i), words),
+            Some(Kind::Loop { .. }) => None,
+            None => None,
+        }
+    }
+
+    // The same, at the instruction.
+    fn draw_on_at(&mut self, program: &Program<'a>, i: Instruction, words: u32) -> Option<Next>
+        requires found { next_instruction (bounded_by program.now) self.old.place.nodes ≡ Some i }
+        requires fits { operation_fits self.old.working.types self.old.working.sizes (place_total (next_place self.old.place)) i.operation ≡ true }
+        ensures { StepsOn (bounded_by program.now) words self.old self.new result }
+    {
+        match i.operation {
+            Operation::Fill { block, count } => self.fill_on(program, i, (block, count), words),
+            _ => None,
+        }
     }
 
     // The end of the process is next.
     #[tactic(auto, using(crate::proofs::WalkSteps::stops_exit))]
     fn exit(&self, program: &Program<'a>, i: Instruction) -> Next
-        requires found { instruction_at self.now.place.nodes ≡ Some i }
+        requires found { next_instruction (bounded_by program.now) self.now.place.nodes ≡ Some i }
         requires is { i.operation ≡ Operation.Exit }
         ensures { Stops (bounded_by program.now) self.now self.now result }
     {
@@ -489,14 +568,13 @@ impl<'a> Activation<'a> {
     }
 
     /// One step.
-    #[tactic(auto, using(crate::proofs::Places::fits_here))]
     pub fn step(&mut self, program: &Program<'a>) -> Result<Stepped, AllocError>
         ensures steps { IfOk result (Steps (bounded_by program.now) self.old self.new) }
         ensures err { OnErr result (self.new ≡ self.old) }
     {
         match self.first() {
             None => Ok(self.end_round(program)),
-            Some(Kind::Plain(i)) => self.perform(program, i),
+            Some(Kind::Plain(i)) => self.perform(program, program.resolved(i)),
             Some(
                 Kind::Loop {
                     line,
@@ -509,139 +587,102 @@ impl<'a> Activation<'a> {
         }
     }
 
-    /// Takes the answer to the action that is next, and says whether that has ended the process.
-    pub fn receive(&mut self, program: &Program<'a>, answer: &Answer) -> bool
-        requires acting { acts (instruction_at self.old.place.nodes) ≡ true }
-        requires allowed { accepts (lone (bounded_by program.now) self.old []) answer.now ≡ true }
-        ensures { IsReceived (bounded_by program.now) self.old self.new answer.now result }
+    /// Takes the answer to the action that is next, where so many words of the instruction that is next have been drawn.
+    #[tactic(auto, using(crate::proofs::Places::resolved_here))]
+    pub fn receive(&mut self, program: &Program<'a>, answer: &Answer, words: u32) -> Received
+        requires acting { acts words (next_instruction (bounded_by program.now) self.old.place.nodes) self.old.working.memory ≡ true }
+        requires allowed { accepts (lone_on (bounded_by program.now) words self.old []) answer.now ≡ true }
+        ensures { IsReceived (bounded_by program.now) words self.old self.new answer.now result }
     {
         match self.first() {
-            Some(Kind::Plain(i)) => self.receive_at(program, i, answer),
+            Some(Kind::Plain(i)) => { self.receive_at(program, program.resolved(i), answer, words) }
             _ => unreachable!(),
         }
     }
 
     // The same, at the instruction.
-    fn receive_at(&mut self, program: &Program<'a>, i: Instruction, answer: &Answer) -> bool
-        requires found { instruction_at self.old.place.nodes ≡ Some i }
+    fn receive_at(
+        &mut self,
+        program: &Program<'a>,
+        i: Instruction,
+        answer: &Answer,
+        words: u32,
+    ) -> Received
+        requires found { next_instruction (bounded_by program.now) self.old.place.nodes ≡ Some i }
         requires fits { operation_fits self.old.working.types self.old.working.sizes (place_total (next_place self.old.place)) i.operation ≡ true }
-        requires action { is_action i.operation ≡ true }
-        requires allowed { accepts (lone (bounded_by program.now) self.old []) answer.now ≡ true }
-        ensures { IsReceived (bounded_by program.now) self.old self.new answer.now result }
+        requires acting { acts_on words i.operation self.old.working.memory ≡ true }
+        requires allowed { accepts (lone_on (bounded_by program.now) words self.old []) answer.now ≡ true }
+        ensures { IsReceived (bounded_by program.now) words self.old self.new answer.now result }
     {
         match i.operation {
-            Operation::Draw { into, bits } => self.receive_word(program, i, into, bits, answer),
-            Operation::ReadObject {
-                block,
-                at,
-                object,
-                offset,
-                count,
-            } => { self.receive_bytes(program, i, (block, at), (object, offset), count, answer) }
-            Operation::WriteObject {
-                object,
-                offset,
-                block,
-                at,
-                count,
-            } => { self.receive_done(program, i, (object, offset), (block, at), count, answer) }
-            Operation::Exit => self.finish(program, i, answer),
-            _ => unreachable!(),
+            Operation::Fill { block, count } => {
+                self.receive_word(program, i, (block, count), answer, words)
+            }
+            Operation::Exit => self.finish(program, i, answer, words),
+            _ => self.receive_answer(program, i, answer, words),
         }
     }
 
-    // The word of a draw.
+    // A word for a block.
+    #[tactic(auto, using(crate::proofs::WalkFits::fill_here, crate::proofs::WalkFits::fill_count_here))]
     fn receive_word(
         &mut self,
         program: &Program<'a>,
         i: Instruction,
-        into: usize,
-        bits: u32,
+        into: (usize, usize),
         answer: &Answer,
-    ) -> bool
-        requires found { instruction_at self.old.place.nodes ≡ Some i }
+        words: u32,
+    ) -> Received
+        requires found { next_instruction (bounded_by program.now) self.old.place.nodes ≡ Some i }
         requires fits { operation_fits self.old.working.types self.old.working.sizes (place_total (next_place self.old.place)) i.operation ≡ true }
-        requires is { i.operation ≡ Operation.Draw into bits }
-        requires allowed { accepts (lone (bounded_by program.now) self.old []) answer.now ≡ true }
-        ensures { IsReceived (bounded_by program.now) self.old self.new answer.now result }
+        requires is { i.operation ≡ Operation.Fill into.0 into.1 }
+        requires more { words < word_count (first_count self.old.working.memory into.0 into.1) }
+        requires allowed { accepts (lone_on (bounded_by program.now) words self.old []) answer.now ≡ true }
+        ensures { IsReceived (bounded_by program.now) words self.old self.new answer.now result }
     {
         let _ = program;
-        self.put(into, word_of(answer));
-        self.advance(0);
-        false
+        self.fill_word(into.0, into.1, words, word_of(answer));
+        Received::Draws(words + 1)
     }
 
-    // The bytes of a read.
-    fn receive_bytes(
+    // The answer to one action.
+    #[tactic(auto, using(crate::proofs::WalkFits::exchange_here))]
+    fn receive_answer(
         &mut self,
         program: &Program<'a>,
         i: Instruction,
-        into: (usize, u32),
-        from: (u32, u32),
-        count: u32,
         answer: &Answer,
-    ) -> bool
-        requires found { instruction_at self.old.place.nodes ≡ Some i }
+        words: u32,
+    ) -> Received
+        requires found { next_instruction (bounded_by program.now) self.old.place.nodes ≡ Some i }
         requires fits { operation_fits self.old.working.types self.old.working.sizes (place_total (next_place self.old.place)) i.operation ≡ true }
-        requires is { i.operation ≡ Operation.ReadObject into.0 into.1 from.0 from.1 count }
-        requires allowed { accepts (lone (bounded_by program.now) self.old []) answer.now ≡ true }
-        ensures { IsReceived (bounded_by program.now) self.old self.new answer.now result }
+        requires exchange { is_exchange i.operation ≡ true }
+        requires allowed { accepts (lone_on (bounded_by program.now) words self.old []) answer.now ≡ true }
+        ensures { IsReceived (bounded_by program.now) words self.old self.new answer.now result }
     {
         let _ = program;
-        let _ = from;
-        self.put_bytes(into.0, into.1, bytes_in(answer));
+        let _ = words;
+        self.take_answer(i.operation, answer);
         self.advance(0);
-        false
-    }
-
-    // A write was made.
-    fn receive_done(
-        &mut self,
-        program: &Program<'a>,
-        i: Instruction,
-        into: (u32, u32),
-        from: (usize, u32),
-        count: u32,
-        answer: &Answer,
-    ) -> bool
-        requires found { instruction_at self.old.place.nodes ≡ Some i }
-        requires is { i.operation ≡ Operation.WriteObject into.0 into.1 from.0 from.1 count }
-        requires allowed { accepts (lone (bounded_by program.now) self.old []) answer.now ≡ true }
-        ensures { IsReceived (bounded_by program.now) self.old self.new answer.now result }
-    {
-        let _ = program;
-        let _ = into;
-        let _ = from;
-        self.advance(0);
-        false
+        Received::GoesOn
     }
 
     // The end of the process.
-    fn finish(&mut self, program: &Program<'a>, i: Instruction, answer: &Answer) -> bool
-        requires found { instruction_at self.old.place.nodes ≡ Some i }
+    fn finish(
+        &mut self,
+        program: &Program<'a>,
+        i: Instruction,
+        answer: &Answer,
+        words: u32,
+    ) -> Received
+        requires found { next_instruction (bounded_by program.now) self.old.place.nodes ≡ Some i }
         requires is { i.operation ≡ Operation.Exit }
-        requires allowed { accepts (lone (bounded_by program.now) self.old []) answer.now ≡ true }
-        ensures { IsReceived (bounded_by program.now) self.old self.new answer.now result }
+        requires allowed { accepts (lone_on (bounded_by program.now) words self.old []) answer.now ≡ true }
+        ensures { IsReceived (bounded_by program.now) words self.old self.new answer.now result }
     {
         let _ = program;
-        true
-    }
-
-    // Sets a register to these bits.
-    fn put(&mut self, into: usize, bits: u64)
-        requires into { is_there self.old.working.types into ≡ true }
-        requires bits { bits < 2 ^ width (slice_index_or self.old.working.types into IntegerType.Int) }
-        ensures { self.new ≡ record self.old { working = record self.old.working { memory = with_register self.old.working.memory into bits } } }
-    {
-        self.frame.put(into, bits);
-    }
-
-    // Writes bytes into a block, from an offset on.
-    fn put_bytes(&mut self, block: usize, at: u32, new: &[u8])
-        requires { is_within self.old.working.sizes block at (length new.now) ≡ true }
-        ensures { self.new ≡ record self.old { working = record self.old.working { memory = with_blocks self.old.working.memory (put_bytes self.old.working.memory.blocks block at new.now) } } }
-    {
-        self.frame.put_bytes(block, at, new);
+        let _ = words;
+        Received::Ends
     }
 
     /// Goes past the instruction that is next.

@@ -24,3 +24,23 @@ pub fn bytes_in(answer: &Answer) -> &[u8]
         _ => &[],
     }
 }
+
+/// The size that an answer gives.
+pub fn size_in(answer: &Answer) -> u32
+    ensures { result ≡ meaning.size_in answer.now }
+{
+    match answer {
+        Answer::Size(size) => *size,
+        _ => 0,
+    }
+}
+
+/// The number that an answer gives.
+pub fn number_in(answer: &Answer) -> u32
+    ensures { result ≡ meaning.number_in answer.now }
+{
+    match answer {
+        Answer::Number(number) => *number,
+        _ => 0,
+    }
+}

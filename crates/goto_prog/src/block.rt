@@ -3,6 +3,7 @@
 ghost use Rattle.std.specs.Prelude.{◌≡◌, ◌+◌, ◌≤◌, length, take, drop, IfOk};
 ghost use Rattle.c_values.specs.Variables.{low_bytes, put_at, zeros, number_at};
 ghost use Rattle.c_values.specs.Numbers.{typed};
+ghost use Rattle.goto_prog.specs.Meaning.{taken_at, put_within};
 
 use c_types::IntegerType;
 use c_values::{Number, read_block, write_block};
@@ -83,6 +84,26 @@ impl Block {
     {
         let start = at as usize;
         self.bytes[start..start + new.len()].copy_from_slice(new);
+    }
+
+    /// A copy of so many bytes, from an offset on; past the end they are 0.
+    pub fn taken(&self, alloc: Global, offset: u32, count: u32) -> Result<Vec<u8>, AllocError>
+        ensures { IfOk result (λ part. part.items ≡ taken_at count offset self.now) }
+    {
+        let start = (offset as usize).min(self.bytes.len());
+        let end = (start + count as usize).min(self.bytes.len());
+        let mut part = Vec::from_slice(alloc, &self.bytes[start..end])?;
+        part.resize(count as usize, 0)?;
+        Ok(part)
+    }
+
+    /// Writes bytes in the place of as many, from an offset on, as far as there are some.
+    pub fn put_within(&mut self, at: u32, new: &[u8])
+        ensures { self.new ≡ put_within at new.now self.old }
+    {
+        let start = (at as usize).min(self.bytes.len());
+        let count = new.len().min(self.bytes.len() - start);
+        self.bytes[start..start + count].copy_from_slice(&new[..count]);
     }
 
     /// Sets each byte to 0.

@@ -5,7 +5,7 @@ use core_tree::{ArithmeticOperator, Comparison, SignOperator};
 use words::Class;
 
 /// What an explicit check asks of registers; it breaks where that isn't so (C11 6.5). Values are read at
-/// the types that stand beside the operators.
+/// the types that stand beside the operators. Pointers are numbers of type unsigned long.
 #[derive(Clone, Copy)]
 pub enum Condition {
     /// The divisor isn't 0: class division.
@@ -48,9 +48,37 @@ pub enum Condition {
     Returned {
         returned: usize,
     },
+    /// The offset of a pointer, so many bytes further on for each 1 of an index, is from 0 to the size in a register, as whole
+    /// numbers: this class (C11 6.5.6p8).
+    Within {
+        pointer: usize,
+        index: usize,
+        index_type: IntegerType,
+        step: i64,
+        size: usize,
+        class: Class,
+    },
+    /// Two pointers have the number of one object: class pointer (C11 6.5.6p9, 6.5.8p5).
+    SameObject {
+        left: usize,
+        right: usize,
+    },
+    /// So many bytes from the offset of a pointer on lie within the bytes of a block, of which there are `whole`: class bounds.
+    Inside {
+        offset: usize,
+        count: u32,
+        whole: u32,
+    },
+    /// The product of two registers is at most so much, as a whole number: class malloc-limit.
+    AtMost {
+        left: usize,
+        right: usize,
+        most: u32,
+    },
 }
 
-/// What an instruction does. Registers hold words and blocks hold bytes, both are numbered from 0.
+/// What an instruction does. Registers hold words and blocks hold bytes, both are numbered from 0. A pointer is a word of type
+/// unsigned long: the number of its object in the high 32 bits, an offset in the low 32.
 #[derive(Clone, Copy)]
 pub enum Operation {
     /// Sets a register to these bits.
@@ -191,6 +219,121 @@ pub enum Operation {
     /// The function ends and hands over the bytes of a block, or nothing.
     Return {
         value: Option<usize>,
+    },
+    /// Sets a register to a pointer so many bytes further on for each 1 of an index, fewer than 0 where `step` is; its offset is
+    /// taken modulo 2 ^ 32 (C11 6.5.6p8). In strict code it breaks the class by itself where the offset, as a whole number, is
+    /// not from 0 to the size in a register.
+    Move {
+        into: usize,
+        pointer: usize,
+        index: usize,
+        index_type: IntegerType,
+        step: i64,
+        size: usize,
+        class: Class,
+    },
+    /// Sets a register to a pointer so many bytes further on, with its offset modulo 2 ^ 32 (C11 6.5.2.3p4).
+    Offset {
+        into: usize,
+        pointer: usize,
+        count: u32,
+    },
+    /// Two pointers are subtracted or compared. In strict code it breaks the class pointer by itself where their objects'
+    /// numbers differ.
+    Same {
+        left: usize,
+        right: usize,
+    },
+    /// Sets a register to how many elements of so many bytes lie between the offsets of two pointers, toward 0 (C11 6.5.6p9).
+    Distance {
+        into: usize,
+        left: usize,
+        right: usize,
+        step: u32,
+    },
+    /// Sets a register to 1 where the offsets of two pointers compare so, else to 0 (C11 6.5.8p5).
+    Relate {
+        into: usize,
+        operator: Comparison,
+        left: usize,
+        right: usize,
+    },
+    /// Writes so many bytes of the block `from`, which has `whole` of them, from the offset of the pointer in a register on, into
+    /// a block, from `at` on; bytes past the end are 0. In strict code it breaks the class bounds by itself where they aren't
+    /// all there.
+    Take {
+        block: usize,
+        at: u32,
+        from: usize,
+        offset: usize,
+        count: u32,
+        whole: u32,
+    },
+    /// Writes so many bytes of the block `from`, from `at` on, into a block, which has `whole` of them, from the offset of the
+    /// pointer in a register on, as far as it has some. In strict code it breaks the class bounds by itself where they don't
+    /// all have a place.
+    Put {
+        block: usize,
+        offset: usize,
+        from: usize,
+        at: u32,
+        count: u32,
+        whole: u32,
+    },
+    /// Reads so many bytes from the pointer in a register on into a block, from `at` on.
+    Read {
+        block: usize,
+        at: u32,
+        pointer: usize,
+        count: u32,
+    },
+    /// Writes so many bytes of a block, from `at` on, where the pointer in a register points to; `first` where they initialize
+    /// the object.
+    Write {
+        pointer: usize,
+        block: usize,
+        at: u32,
+        count: u32,
+        first: bool,
+    },
+    /// Sets a register to the size of the object of a pointer, for a subscript or for another sum.
+    Look {
+        into: usize,
+        pointer: usize,
+        subscript: bool,
+    },
+    /// Draws the first bytes of a block, as many as a register says and as the block has, in words of 8 bytes, the last of
+    /// the bytes that are left.
+    Fill {
+        block: usize,
+        count: usize,
+    },
+    /// Makes an object of the first bytes of a block, as many as a register says and as the block has, and sets a register to
+    /// the pointer to it.
+    Alloc {
+        into: usize,
+        block: usize,
+        size: usize,
+        readonly: bool,
+        heap: bool,
+    },
+    /// Ends the lifetime of the object of a pointer (C11 6.2.4p6).
+    Die {
+        pointer: usize,
+    },
+    /// Frees the object that a pointer, which isn't null, points to (C11 7.22.3.3).
+    Free {
+        pointer: usize,
+    },
+    /// Sets a register to a drawn bit where an allocation may fail, else to 0. Only code with bounds has it.
+    MayFail {
+        into: usize,
+    },
+    /// Breaks the class malloc-limit where the product of two registers, as a whole number, is greater than the limit. Only
+    /// code with bounds has it.
+    Limit {
+        left: usize,
+        right: usize,
     },
 }
 

@@ -80,7 +80,7 @@ impl Code {
         self.startable
     }
 
-    /// Whether no instruction calls a function or returns.
+    /// Whether no instruction calls a function, returns, or asks for bounds.
     #[tactic(auto, using(crate::proofs::FlatCode::flat_later, crate::proofs::FlatCode::not_flat, crate::proofs::FlatCode::flat_whole))]
     pub fn is_flat(&self) -> bool
         ensures { result ≡ is_flat_code self.now }
@@ -94,13 +94,15 @@ impl Code {
     }
 }
 
-// Whether an operation neither calls a function nor returns.
+// Whether an operation neither calls a function nor returns, nor asks for bounds.
 fn is_flat(operation: Operation) -> bool
     ensures { result ≡ is_flat operation }
 {
     match operation {
         Operation::Call { .. } => false,
         Operation::Return { .. } => false,
+        Operation::MayFail { .. } => false,
+        Operation::Limit { .. } => false,
         _ => true,
     }
 }

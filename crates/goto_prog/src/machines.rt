@@ -6,9 +6,9 @@ ghost use Rattle.goto_prog.specs.GotoThreads.{strict_thread, plain_thread};
 ghost use Rattle.goto_prog.specs.Running.{begun};
 ghost use Rattle.goto_prog.specs.Walks as walks;
 
+use crate::flow::Flow;
 use crate::goto::{Goto, Unrolled};
 use crate::program::Program;
-use crate::runner::Runner;
 use crate::walker::Walker;
 use actions::{Answer, Machine, Next};
 use core_tree::Bounds;
@@ -140,46 +140,46 @@ impl<'a> Machine for PlainThread<'a> {
 /// A thread of unrolled code, which is plain.
 #[derive(Drop)]
 pub struct UnrolledThread<'a> {
-    runner: Runner<'a>,
+    flow: Flow<'a>,
 }
 
 impl<'a> Model for UnrolledThread<'a> {
-    ghost use Rattle.goto_prog.specs.Running.{Running};
+    ghost use Rattle.goto_prog.specs.Running.{Flowing};
 
-    ghost Value = { Running };
+    ghost Value = { Flowing };
 
-    ghost view = { λ s. s.runner };
+    ghost view = { λ s. s.flow };
 }
 
 impl<'a> UnrolledThread<'a> {
     /// Thread 0 at its start.
     pub fn new(alloc: Global, unrolled: &'a Unrolled) -> Result<UnrolledThread<'a>, AllocError>
-        ensures { IfOk result (λ t. t ≡ begun unrolled.now.functions (main_code unrolled.now) false) }
+        ensures { IfOk result (λ t. t ≡ record { runner = begun unrolled.now.functions (main_code unrolled.now) false; words = 0 }) }
     {
-        let runner = Runner::new(alloc, unrolled.functions(), unrolled.main(), false)?;
-        Ok(UnrolledThread { runner })
+        let flow = Flow::new(alloc, unrolled.functions(), unrolled.main(), false)?;
+        Ok(UnrolledThread { flow })
     }
 }
 
 impl<'a> Machine for UnrolledThread<'a> {
-    ghost use Rattle.goto_prog.specs.CodeThread.{is_thread};
-    ghost use Rattle.goto_prog.specs.Running.{thread_of};
+    ghost use Rattle.goto_prog.specs.FlowThread.{is_thread};
+    ghost use Rattle.goto_prog.specs.Running.{flow_thread};
 
-    ghost thread = { λ s. thread_of s };
+    ghost thread = { λ s. flow_thread s };
 
     fn start(&self, function: u32, _v: Word) -> Result<Self, AllocError> {
         Ok(UnrolledThread {
-            runner: self.runner.started(function)?,
+            flow: self.flow.started(function)?,
         })
     }
 
     fn advance(&mut self) -> Result<Next, AllocError> {
-        self.runner.settle()
+        self.flow.settle()
     }
 
     fn answer(&mut self, answer: &Answer) -> Result<(), AllocError> {
-        self.runner.take(answer)
+        self.flow.take(answer)
     }
 
-    ghost valid = { λ s. is_thread s.strict s.functions s.code s.place s.memory };
+    ghost valid = { λ s. is_thread s };
 }

@@ -4,10 +4,12 @@ ghost use Rattle.std.specs.Prelude.{◌≡◌, if◌then◌else◌};
 ghost use Rattle.std.specs.Str.{bytes_eq};
 ghost use Rattle.std.specs.Prelude.{slice_get, option_map};
 ghost use Rattle.goto_prog.specs.ProgramViews.{bounded_by};
-ghost use Rattle.goto_prog.specs.Structured.{tests_in, name_of, tests, round_count};
+ghost use Rattle.goto_prog.specs.Structured.{tests_in, name_of, tests, resolved_in, round_count};
+ghost use Rattle.goto_prog.specs.Structured as structured;
 ghost use Rattle.goto_prog.specs.Nodes.{view_procedures};
 ghost use Rattle.core_tree.specs.Ranges.{loop_limits};
 
+use crate::code::{Condition, Instruction, Operation};
 use crate::nodes::Procedure;
 use actions::Next;
 use core_tree::{Bounds, LoopBound};
@@ -33,6 +35,30 @@ fn tests_in(set: &[LoopBound], others: u32, function: &[u8], number: u32) -> u32
         }
     }
     others
+}
+
+/// What an operation that asks for the bounds of a command does under them: whether an allocation fails is drawn where it may, and
+/// no more bytes are allocated at once than the limit.
+pub fn resolved(bounds: &Bounds, operation: Operation) -> Operation
+    ensures { result ≡ structured.resolved bounds.now operation }
+{
+    match operation {
+        Operation::MayFail { into } => {
+            if bounds.malloc_may_fail() {
+                Operation::Draw { into, bits: 1 }
+            } else {
+                Operation::Constant { into, bits: 0 }
+            }
+        }
+        Operation::Limit { left, right } => Operation::Check {
+            condition: Condition::AtMost {
+                left,
+                right,
+                most: bounds.malloc_limit(),
+            },
+        },
+        _ => operation,
+    }
 }
 
 impl<'a> Program<'a> {
@@ -70,6 +96,16 @@ impl<'a> Program<'a> {
             count.saturating_sub(1)
         } else {
             count
+        }
+    }
+
+    /// An instruction as the bounds have it: whether an allocation fails is drawn where it may, and a limit is a check.
+    pub fn resolved(&self, i: Instruction) -> Instruction
+        ensures { result ≡ resolved_in (bounded_by self.now) i }
+    {
+        Instruction {
+            operation: resolved(self.bounds, i.operation),
+            ..i
         }
     }
 

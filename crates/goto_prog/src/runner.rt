@@ -1,17 +1,16 @@
 //! A run of flat code.
 
-ghost use Rattle.std.specs.Prelude.{◌≡◌, ◌==◌, ◌+◌, ◌<◌, ◌≤◌, ◌^◌, true, length, slice_index_or, slice_get, IfOk, OnOk, OnErr};
-ghost use Rattle.c_types.specs.Integers.{width};
-ghost use Rattle.c_values.specs.Variables.{put_bytes};
-ghost use Rattle.core_tree.specs.Typed.{is_within};
-ghost use Rattle.goto_prog.specs.Meaning.{register, with_register, with_blocks, bytes_of, own_class, calculated, check_class};
-ghost use Rattle.goto_prog.specs.Fitting.{code_fits, is_there, check_fits, operation_fits};
-ghost use Rattle.goto_prog.specs.Running.{begun, is_calculation};
+ghost use Rattle.std.specs.Prelude.{◌≡◌, ◌==◌, ◌+◌, ◌*◌, ◌<◌, ◌≤◌, ◌^◌, true, length, nat_lt, slice_get, IfOk, OnOk, OnErr, MatchOption};
+ghost use Rattle.actions.specs.Behaviour.{shape_of, has_shape};
+ghost use Rattle.c_values.specs.Variables.{low_bytes, put_bytes, word_count, drawn_count};
+ghost use Rattle.goto_prog.specs.Meaning.{register, with_blocks, first_count, action_of, answered_with, own_class, calculated, check_class};
+ghost use Rattle.goto_prog.specs.Fitting.{code_fits, is_there, is_pointer, check_fits, operation_fits};
+ghost use Rattle.goto_prog.specs.Running.{begun, is_calculation, is_exchange};
 
 use crate::code::{Condition, Instruction, Operation};
 use crate::frame::Frame;
 use crate::listing::Code;
-use c_types::IntegerType;
+use actions::{Action, Answer};
 use std::alloc::{AllocError, Global};
 use std::marker::Model;
 use words::Class;
@@ -69,29 +68,45 @@ impl<'a> Runner<'a> {
         self.frame.is_zero(from)
     }
 
-    /// A copy of so many bytes of a block, from an offset on.
-    pub(crate) fn part(&self, block: usize, offset: u32, count: u32) -> Result<Vec<u8>, AllocError>
-        requires { is_within self.now.code.blocks block offset count ≡ true }
-        ensures { IfOk result (λ part. part.items ≡ bytes_of self.now.memory.blocks block offset count) }
+    /// The action of an operation that makes one and goes on behind it.
+    pub(crate) fn action(&self, operation: Operation) -> Result<Action, AllocError>
+        requires exchange { is_exchange operation ≡ true }
+        requires fits { operation_fits self.now.code.registers self.now.code.blocks 0 operation ≡ true }
+        ensures { IfOk result (λ a. a ≡ action_of operation self.now.memory) }
     {
-        self.frame.part(block, offset, count)
+        self.frame.action(operation)
     }
 
-    /// Writes bytes into a block, from an offset on.
-    pub(crate) fn put_bytes(&mut self, block: usize, at: u32, new: &[u8])
-        requires { is_within self.old.code.blocks block at (length new.now) ≡ true }
-        ensures { self.new ≡ record self.old { memory = with_blocks self.old.memory (put_bytes self.old.memory.blocks block at new.now) } }
+    /// Takes the answer to it.
+    pub(crate) fn take_answer(&mut self, operation: Operation, answer: &Answer)
+        requires exchange { is_exchange operation ≡ true }
+        requires fits { operation_fits self.old.code.registers self.old.code.blocks 0 operation ≡ true }
+        requires shape { has_shape (shape_of (action_of operation self.old.memory)) answer.now ≡ true }
+        ensures { self.new ≡ record self.old { memory = answered_with operation self.old.memory answer.now } }
     {
-        self.frame.put_bytes(block, at, new);
+        self.frame.take_answer(operation, answer);
     }
 
-    /// Sets a register to these bits.
-    pub(crate) fn put(&mut self, into: usize, bits: u64)
-        requires into { is_there self.old.code.registers into ≡ true }
-        requires bits { bits < 2 ^ width (slice_index_or self.old.code.registers into IntegerType.Int) }
-        ensures { self.new ≡ record self.old { memory = with_register self.old.memory into bits } }
+    /// How many bits the next word has that is drawn for the first bytes of a block, as many as a register says, where so many
+    /// words have been drawn; none where no word is left.
+    pub(crate) fn next_word(&self, block: usize, count: usize, words: u32) -> Option<u32>
+        requires block { nat_lt block (length self.now.code.blocks) ≡ true }
+        requires count { is_pointer self.now.code.registers count ≡ true }
+        ensures { MatchOption result (word_count (first_count self.now.memory block count) ≤ words) (λ bits. (words < word_count (first_count self.now.memory block count)) × (bits ≡ 8 * drawn_count (first_count self.now.memory block count) (8 * words)) × (1 ≤ bits) × (bits ≤ 64)) }
     {
-        self.frame.put(into, bits);
+        self.frame.next_word(block, count, words)
+    }
+
+    /// Takes the word that is next there.
+    pub(crate) fn fill_word(&mut self, block: usize, count: usize, words: u32, bits: u64)
+        requires block { nat_lt block (length self.old.code.blocks) ≡ true }
+        requires count { is_pointer self.old.code.registers count ≡ true }
+        requires more { words < word_count (first_count self.old.memory block count) }
+        ensures is { self.new ≡ record self.old { memory = with_blocks self.old.memory (put_bytes self.old.memory.blocks block (8 * words) (low_bytes (drawn_count (first_count self.old.memory block count) (8 * words)) bits)) } }
+        ensures same { first_count self.new.memory block count ≡ first_count self.old.memory block count }
+        ensures few { words + 1 < 2 ^ 32 }
+    {
+        self.frame.fill_word(block, count, words, bits);
     }
 
     /// Sets the register or the block that an operation sets.

@@ -1,14 +1,14 @@
 //! What an instruction does: what is checked, asked, calculated, and where it leads.
 
-ghost use Rattle.std.specs.Prelude.{◌≡◌, true, false, IfOk, OnErr, slice_get, Some, None, if◌then◌else◌};
-ghost use Rattle.goto_prog.specs.Meaning.{own_class};
+ghost use Rattle.std.specs.Prelude.{◌≡◌, ◌+◌, ◌*◌, ◌<◌, ◌≤◌, true, false, IfOk, OnErr, MatchOption, slice_get, Some, None, if◌then◌else◌};
+ghost use Rattle.c_values.specs.Variables.{word_count, drawn_count};
+ghost use Rattle.goto_prog.specs.Meaning.{first_count, own_class};
 ghost use Rattle.goto_prog.specs.Fitting.{code_fits};
-ghost use Rattle.goto_prog.specs.Running.{is_calculation, Steps, Stops};
+ghost use Rattle.goto_prog.specs.Running.{is_calculation, is_exchange, asks_bounds, Steps, Stops};
 
 use crate::code::{Condition, Instruction, Operation};
 use crate::runner::Runner;
-use actions::{Action, Bytes, DrawBits, Next};
-use c_values::pointer_to;
+use actions::{Action, DrawBits, Next};
 use std::alloc::AllocError;
 use words::{Class, Word};
 
@@ -146,22 +146,19 @@ impl<'a> Runner<'a> {
             Operation::Check { condition } => Ok(self.check(i, condition)),
             Operation::Assert { operand } => Ok(self.assertion(i, operand)),
             Operation::Assume { operand } => Ok(self.assumption(i, operand)),
-            Operation::Draw { into, bits } => Ok(Some(self.draw(i, into, bits))),
-            Operation::ReadObject {
-                block,
-                at,
-                object,
-                offset,
-                count,
-            } => Ok(Some(self.read_object(i, (block, at), (object, offset), count))),
-            Operation::WriteObject {
-                object,
-                offset,
-                block,
-                at,
-                count,
-            } => { Ok(Some(self.write_object(i, (object, offset), (block, at), count)?)) }
+            Operation::Draw { .. } => Ok(Some(self.act(i)?)),
+            Operation::ReadObject { .. } => Ok(Some(self.act(i)?)),
+            Operation::WriteObject { .. } => Ok(Some(self.act(i)?)),
+            Operation::Read { .. } => Ok(Some(self.act(i)?)),
+            Operation::Write { .. } => Ok(Some(self.act(i)?)),
+            Operation::Look { .. } => Ok(Some(self.act(i)?)),
+            Operation::Alloc { .. } => Ok(Some(self.act(i)?)),
+            Operation::Die { .. } => Ok(Some(self.act(i)?)),
+            Operation::Free { .. } => Ok(Some(self.act(i)?)),
+            Operation::Fill { block, count } => Ok(self.begin_fill(i, block, count)),
             Operation::Exit => Ok(Some(self.exit(i))),
+            Operation::MayFail { .. } => Ok(Some(self.unbounded(i))),
+            Operation::Limit { .. } => Ok(Some(self.unbounded(i))),
             Operation::Constant { .. } => self.calculation(i),
             Operation::Copy { .. } => self.calculation(i),
             Operation::Load { .. } => self.calculation(i),
@@ -174,6 +171,13 @@ impl<'a> Runner<'a> {
             Operation::Compare { .. } => { self.calculation(i) }
             Operation::IsZero { .. } => self.calculation(i),
             Operation::Use { .. } => self.calculation(i),
+            Operation::Move { .. } => self.calculation(i),
+            Operation::Offset { .. } => self.calculation(i),
+            Operation::Same { .. } => self.calculation(i),
+            Operation::Distance { .. } => self.calculation(i),
+            Operation::Relate { .. } => self.calculation(i),
+            Operation::Take { .. } => self.calculation(i),
+            Operation::Put { .. } => self.calculation(i),
             Operation::Fail { class } => Ok(Some(self.fail(i, class))),
             Operation::Call {
                 callee,
@@ -186,52 +190,60 @@ impl<'a> Runner<'a> {
         }
     }
 
-    // A draw is next.
-    #[tactic(auto, using(crate::proofs::Stepping::stops_draw, crate::proofs::Stepping::draw_here, crate::proofs::Stepping::draw_most))]
-    fn draw(&self, i: Instruction, into: usize, bits: u32) -> Next
+    // An action is next.
+    #[tactic(auto, using(crate::proofs::Stepping::exchange_here, crate::proofs::Stepping::stops_exchange))]
+    fn act(&self, i: Instruction) -> Result<Next, AllocError>
         requires found { slice_get self.now.code.instructions self.now.place ≡ Some i }
         requires code { code_fits self.now.code.registers self.now.code.blocks self.now.code.instructions ≡ true }
-        requires is { i.operation ≡ Operation.Draw into bits }
-        ensures { Stops self.now self.now result }
-    {
-        Next::Act(Action::Draw(DrawBits::new(bits)), i.line, i.function)
-    }
-
-    // A read of a static object is next.
-    #[tactic(auto, using(crate::proofs::Stepping::stops_read))]
-    fn read_object(&self, i: Instruction, into: (usize, u32), from: (u32, u32), count: u32) -> Next
-        requires found { slice_get self.now.code.instructions self.now.place ≡ Some i }
-        requires is { i.operation ≡ Operation.ReadObject into.0 into.1 from.0 from.1 count }
-        ensures { Stops self.now self.now result }
-    {
-        let _ = into;
-        Next::Act(
-            Action::Read(pointer_to(from.0, from.1), count),
-            i.line,
-            i.function,
-        )
-    }
-
-    // A write of a static object is next.
-    #[tactic(auto, using(crate::proofs::Stepping::stops_write, crate::proofs::Stepping::write_here))]
-    fn write_object(
-        &self,
-        i: Instruction,
-        into: (u32, u32),
-        from: (usize, u32),
-        count: u32,
-    ) -> Result<Next, AllocError>
-        requires found { slice_get self.now.code.instructions self.now.place ≡ Some i }
-        requires code { code_fits self.now.code.registers self.now.code.blocks self.now.code.instructions ≡ true }
-        requires is { i.operation ≡ Operation.WriteObject into.0 into.1 from.0 from.1 count }
+        requires exchange { is_exchange i.operation ≡ true }
         ensures { IfOk result (λ n. Stops self.now self.now n) }
     {
-        let bytes = self.part(from.0, from.1, count)?;
-        Ok(Next::Act(
-            Action::Write(pointer_to(into.0, into.1), Bytes::new(bytes), false),
-            i.line,
-            i.function,
-        ))
+        let action = self.action(i.operation)?;
+        Ok(Next::Act(action, i.line, i.function))
+    }
+
+    // The next word for a block, of which so many have been drawn; where none is left it goes on.
+    #[tactic(auto, using(crate::proofs::Stepping::fill_here, crate::proofs::Stepping::fill_count_here, crate::proofs::Stepping::room_here))]
+    pub(crate) fn fill(
+        &mut self,
+        i: Instruction,
+        block: usize,
+        count: usize,
+        words: u32,
+    ) -> Option<Next>
+        requires found { slice_get self.old.code.instructions self.old.place ≡ Some i }
+        requires code { code_fits self.old.code.registers self.old.code.blocks self.old.code.instructions ≡ true }
+        requires is { i.operation ≡ Operation.Fill block count }
+        ensures { MatchOption result ((word_count (first_count self.old.memory block count) ≤ words) × (self.new ≡ record self.old { place = self.old.place + 1 + 0 })) (λ n. (words < word_count (first_count self.old.memory block count)) × (n ≡ Next.Act (Action.Draw (8 * drawn_count (first_count self.old.memory block count) (8 * words))) i.line i.function) × (self.new ≡ self.old)) }
+    {
+        match self.next_word(block, count, words) {
+            Some(bits) => Some(Next::Act(Action::Draw(DrawBits::new(bits)), i.line, i.function)),
+            None => {
+                self.pass(0);
+                None
+            }
+        }
+    }
+
+    // The first word for a block.
+    fn begin_fill(&mut self, i: Instruction, block: usize, count: usize) -> Option<Next>
+        requires found { slice_get self.old.code.instructions self.old.place ≡ Some i }
+        requires code { code_fits self.old.code.registers self.old.code.blocks self.old.code.instructions ≡ true }
+        requires is { i.operation ≡ Operation.Fill block count }
+        ensures { Steps self.old self.new result }
+    {
+        self.fill(i, block, count, 0)
+    }
+
+    // No flat code asks for bounds.
+    #[tactic(auto, using(crate::proofs::Stepping::stops_unbounded))]
+    fn unbounded(&self, i: Instruction) -> Next
+        requires found { slice_get self.now.code.instructions self.now.place ≡ Some i }
+        requires asks { asks_bounds i.operation ≡ true }
+        ensures { Stops self.now self.now result }
+    {
+        let _ = i;
+        Next::Blocked
     }
 
     // The end of the process is next.

@@ -8,11 +8,11 @@ ghost use Rattle.goto_prog.specs.Running.{acts, is_act};
 ghost use Rattle.goto_prog.specs.ProgramViews.{bounded_by};
 ghost use Rattle.goto_prog.specs.Structured as structured;
 ghost use Rattle.goto_prog.specs.Structured.{opened, can_start, function_thread, first_left};
-ghost use Rattle.goto_prog.specs.Walking.{entry, stepped_over, instruction_at, lone, CallsFunction, HandsOver, IsReceived, Stops};
+ghost use Rattle.goto_prog.specs.Walking.{entry, stepped_over, next_instruction, lone_on, CallsFunction, HandsOver, IsReceived, StopsOn, StepsOn};
 ghost use Rattle.goto_prog.specs.Activations as activations;
-ghost use Rattle.goto_prog.specs.Walks.{Pops, bounded, closed, walks, thread_of, Steps, IsHalted};
+ghost use Rattle.goto_prog.specs.Walks.{Pops, bounded, closed, walks, status_behind, top_on, thread_of, Steps, IsHalted};
 
-use crate::activation::{Activation, CallPlan, Stepped};
+use crate::activation::{Activation, CallPlan, Received, Stepped};
 use crate::block::Block;
 use crate::nodes::Procedure;
 use crate::program::Program;
@@ -23,10 +23,12 @@ use std::marker::Model;
 use std::mem::replace;
 use words::{Class, Word};
 
-/// Whether a thread runs, is about to leave its first function with a value, or has left it.
+/// Whether a thread runs, runs within an instruction of which so many words have been drawn, is about to leave its first function
+/// with a value, or has left it.
 #[derive(Clone, Copy)]
 pub enum Status {
     Running,
+    Drawing(u32),
     Leaving(u64),
     Over(u64),
 }
@@ -107,6 +109,17 @@ fn value_of(given: &Option<Block>) -> u64
     match given {
         Some(block) => block.number(0, IntegerType::UnsignedLong).bits(),
         None => 0,
+    }
+}
+
+// How a thread stands whose activation on top has taken an answer.
+fn status_behind(received: Received) -> Status
+    ensures { result ≡ status_behind received }
+{
+    match received {
+        Received::GoesOn => Status::Running,
+        Received::Draws(words) => Status::Drawing(words),
+        Received::Ends => Status::Over(0),
     }
 }
 
@@ -266,6 +279,29 @@ impl<'a> Walker<'a> {
         }
     }
 
+    // The activation on top goes on with its words, or this is next.
+    fn draw_top(&mut self, words: u32) -> Option<Next>
+        ensures steps { StepsOn (bounded self.old) words self.old.top self.new.top result }
+        ensures others { self.new ≡ record self.old { top = self.new.top } }
+    {
+        let program = self.program;
+        self.top.draw_on(&program, words)
+    }
+
+    // A step of a thread that runs within an instruction of which so many words have been drawn.
+    fn draw_on(&mut self, words: u32) -> Option<Next>
+        requires drawing { self.old.status ≡ Status.Drawing words }
+        ensures { Steps self.old self.new result }
+    {
+        match self.draw_top(words) {
+            Some(next) => Some(next),
+            None => {
+                self.stand(Status::Running);
+                None
+            }
+        }
+    }
+
     // The end of the thread is next.
     fn leave(&self, value: u64) -> Next
         ensures { result ≡ Next.Act (if self.now.first then Action.Exit else Action.End value) self.now.line self.now.number }
@@ -286,6 +322,7 @@ impl<'a> Walker<'a> {
     {
         match self.status {
             Status::Running => self.run(),
+            Status::Drawing(words) => Ok(self.draw_on(words)),
             Status::Leaving(value) => Ok(Some(self.leave(value))),
             Status::Over(value) => Ok(Some(Next::Ended(Word::new(value, 64)))),
         }
@@ -382,7 +419,7 @@ impl<'a> Walker<'a> {
     }
 
     // The same, at the action, which is this.
-    #[tactic(auto, using(crate::proofs::WalkerSteps::walk_left, crate::proofs::WalkerSteps::over_takes_none))]
+    #[tactic(auto, using(crate::proofs::WalkerSteps::stands_running, crate::proofs::WalkerSteps::stands_drawing, crate::proofs::WalkerSteps::halted_running, crate::proofs::WalkerSteps::halted_drawing, crate::proofs::WalkerSteps::walk_left, crate::proofs::WalkerSteps::over_takes_none))]
     fn receive(&mut self, next: &Next, answer: &Answer)
         requires is { next.now ≡ walks self.old [] }
         requires halted { IsHalted (self.old).status self.old next.now }
@@ -390,7 +427,8 @@ impl<'a> Walker<'a> {
         ensures { thread_of self.new ≡ answered (thread_of self.old) answer.now }
     {
         match self.status {
-            Status::Running => self.receive_top(next, answer),
+            Status::Running => self.receive_top(next, answer, 0),
+            Status::Drawing(words) => self.receive_top(next, answer, words),
             Status::Leaving(value) => {
                 let last = if self.first { 0 } else { value };
                 self.status = Status::Over(last);
@@ -399,34 +437,33 @@ impl<'a> Walker<'a> {
         }
     }
 
-    // The same, where the activation on top acts.
-    fn receive_top(&mut self, next: &Next, answer: &Answer)
-        requires running { self.old.status ≡ Status.Running }
-        requires halted { is_act next.now ≡ true → Stops (bounded self.old) self.old.top self.old.top next.now }
+    // The same, where the activation on top acts, and so many words of its instruction have been drawn.
+    fn receive_top(&mut self, next: &Next, answer: &Answer, words: u32)
+        requires stands { walks self.old ≡ top_on self.old words }
+        requires halted { is_act next.now ≡ true → StopsOn (bounded self.old) words self.old.top next.now }
         requires allowed { accepts next.now answer.now ≡ true }
         ensures { thread_of self.new ≡ answered (thread_of self.old) answer.now }
     {
         let _ = next;
-        if self.top_takes(answer) {
-            self.end();
-        }
+        let received = self.top_takes(answer, words);
+        self.stand(status_behind(received));
     }
 
-    // The thread is over.
-    fn end(&mut self)
-        ensures { self.new ≡ record self.old { status = Status.Over 0 } }
+    // The thread stands so.
+    fn stand(&mut self, status: Status)
+        ensures { self.new ≡ record self.old { status = status } }
     {
-        self.status = Status::Over(0);
+        self.status = status;
     }
 
     // The activation on top takes the answer.
-    fn top_takes(&mut self, answer: &Answer) -> bool
-        requires acting { acts (instruction_at self.old.top.place.nodes) ≡ true }
-        requires allowed { accepts (lone (bounded self.old) self.old.top []) answer.now ≡ true }
-        ensures received { IsReceived (bounded self.old) self.old.top self.new.top answer.now result }
+    fn top_takes(&mut self, answer: &Answer, words: u32) -> Received
+        requires acting { acts words (next_instruction (bounded self.old) self.old.top.place.nodes) self.old.top.working.memory ≡ true }
+        requires allowed { accepts (lone_on (bounded self.old) words self.old.top []) answer.now ≡ true }
+        ensures received { IsReceived (bounded self.old) words self.old.top self.new.top answer.now result }
         ensures others { self.new ≡ record self.old { top = self.new.top } }
     {
         let program = self.program;
-        self.top.receive(&program, answer)
+        self.top.receive(&program, answer, words)
     }
 }

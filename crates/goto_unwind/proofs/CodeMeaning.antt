@@ -1,6 +1,6 @@
 -- The unrolled code of a function does what its nodes do, if what stands for its calls does what the calls do.
 use Rattle.std.proofs.Common.{◌≡◌, ℕ, zero, suc, ◌+◌, ◌<◌, ◌≤◌, Bool, true, false, take, drop, List, [], ◌∷◌, ◌++◌, length, Option, Some, None, refl, sym, ap, ◌∙◌, arith}
-use Rattle.std.specs.Prelude.{◌==◌, nat_lt, nat_le, slice_index, if◌then◌else◌}
+use Rattle.std.specs.Prelude.{◌-◌, ◌*◌, ◌==◌, min, nat_lt, nat_le, slice_index, if◌then◌else◌}
 use Rattle.std.proofs.lemmas.Bool.{false≢true}
 use Rattle.std.proofs.lemmas.Bool.Decides.{nat_tests}
 use Rattle.words.specs.declared.check.Class.{Class}
@@ -8,9 +8,13 @@ use Rattle.words.specs.declared.check.Class.TheVariants as classes
 use Rattle.words.specs.declared.check.Class.TheVariants.{Unwind}
 use Rattle.c_types.specs.declared.integers.IntegerType.{IntegerType}
 use Rattle.core_tree.specs.Ranges.{Limits}
-use Rattle.c_values.specs.Variables.{pointer_to}
+use Rattle.std.specs.Int.{to_le_bytes, w64}
+use Rattle.c_values.specs.Variables.{pointer_to, low_bytes, put_bytes, word_count, drawn_count}
+use Rattle.c_values.specs.MadeObjects.{made_of}
+use Rattle.goto_prog.specs.declared.code.Condition.TheVariants as checks
 use Rattle.actions.specs.declared.action.Action.{Action}
-use Rattle.actions.specs.declared.action.Action.TheVariants.{Read, Write, Draw}
+use Rattle.actions.specs.declared.action.Action.TheVariants.{Read, Write, Look, Draw, Alloc, Die, Free}
+use Rattle.actions.specs.Pointer.{object_of}
 use Rattle.actions.specs.declared.action.Answer.{Answer}
 use Rattle.actions.specs.declared.action.Answer.TheVariants as answers
 use Rattle.actions.specs.declared.action.Next.{Next}
@@ -20,13 +24,13 @@ use Rattle.goto_prog.specs.declared.code.Operation.{Operation}
 use Rattle.goto_prog.specs.declared.code.Operation.TheVariants as operations
 use Rattle.goto_prog.specs.declared.code.Instruction.{Instruction}
 use Rattle.goto_prog.specs.Fitting.{operation_fits, is_some_block}
-use Rattle.goto_prog.specs.Meaning.{Memory, Given, Reading, register, with_register, with_blocks, bytes_of, calculated, check_class, return_check, operates, or_else, word_of, bytes_in, arguments_of, received, given_by}
+use Rattle.goto_prog.specs.Meaning.{Memory, Given, Reading, register, with_register, with_blocks, bytes_of, calculated, check_class, return_check, operates, or_else, first_count, first_bytes, fills, word_of, bytes_in, size_in, number_in, arguments_of, received, given_by}
 use Rattle.goto_prog.specs.Meaning as flat_meaning
 use Rattle.goto_prog.specs.Threads.{Calls, acting, behaving, final, ask}
 use Rattle.goto_prog.specs.Nodes.{Nodes, done, plain, repeats, node_count, nodes_fit, Routine}
-use Rattle.goto_prog.specs.Structured.{Bounded, tests, round_count, rounds, passed, nodes_before}
+use Rattle.goto_prog.specs.Structured.{Bounded, resolved, tests, round_count, rounds, passed, nodes_before}
 use Rattle.goto_unwind.specs.Unrolled.{Space, Site, Piece, at, jump, renumbered, passed_code, hand_code, Inline, round_codes, instruction_code, nodes_code}
-use Rattle.goto_unwind.proofs.Frames.{left_of, right_of, test_less, test_most, Shows, Elsewhere, sets_register, puts, calculates, checks_same, on, begin, from_end, InFront, from_end_front, from_end_begin, front_length, then_front, Below, Good, Grows, good_before, good_does}
+use Rattle.goto_unwind.proofs.Frames.{left_of, right_of, test_less, test_most, Shows, Elsewhere, sets_register, puts, short, block_size, calculates, checks_same, on, begin, from_end, InFront, from_end_front, from_end_begin, front_length, then_front, Below, Good, Grows, good_before, good_does}
 use Rattle.goto_unwind.proofs.Growth.{Extends, then_space, register_room, block_room, Within, within_less, Grown, InlineGrows, operation_grows, rounds_grow, nodes_grow}
 
 pub grows : (s t : Space) → Extends s t → (all : List ℕ) (types : List IntegerType) (sizes : List ℕ) (r0 b0 : ℕ) (Holds : Memory → Type 0) → Grows all types sizes r0 b0 Holds s t
@@ -165,7 +169,28 @@ module _ (all : List ℕ) (site : Site) (Holds : Memory → Type 0) (kept : (m m
       operand_same a fits m sm good = good.shows.registers a (test_less a (length types) fits)
 
       abbrev Meant : Operation → Memory → Memory → Type 0
-      Meant op m sm = begin (instruction_code b inline site (at line f op) ws code s).code m ≡ operates o false 0 line f op ps sm
+      Meant op m sm = begin (instruction_code b inline site (at line f op) ws code s).code m ≡ operates o false 0 line f (resolved limits op) ps sm
+
+      sets : (r x : ℕ) (m sm : Memory) → r < length types → G s m sm → begin code (with_register m (site.register + r) x) ≡ flat_meaning.at o ps 0 (with_register sm r x)
+      sets r x m sm there good = go _ _ (does s m _ sm _ good (sets_register types sizes site.register site.block r x m sm there good.shows))
+
+      -- an allocation may fail, or it doesn't
+      fails_does : (may_fail : Bool) (r : ℕ) (m sm : Memory) → r < length types → G s m sm
+          → operates behaving false 0 line f (renumbered site.register site.block (if may_fail then operations.Draw r 1 else operations.Constant r 0)) (on code) m
+          ≡ operates o false 0 line f (if may_fail then operations.Draw r 1 else operations.Constant r 0) ps sm
+      fails_does true r m sm there good = same_ask (Draw 1) line f _ _ (λ a h. sets r (word_of a) m sm there good)
+      fails_does false r m sm there good = sets r 0 m sm there good
+
+      -- words that are drawn into a block
+      fills_does : (words size offset v : ℕ) (m sm : Memory) → v < length sizes → size ≤ slice_index sizes v → offset + 8 * words ≤ size + 7 → G s m sm
+          → fills behaving words 0 line f (site.block + v) size offset (on code) m ≡ fills o words 0 line f v size offset ps sm
+      fills_does zero size offset v m sm there most within good = go m sm good
+      fills_does (suc k) size offset v m sm there most within good =
+          let count = drawn_count size offset in
+          same_ask (Draw (8 * count)) line f _ _ (λ a h.
+          let new = low_bytes count (word_of a) in
+          let room : offset + length new ≤ slice_index sizes v = omega (arith, most, within, short types sizes site.register site.block count (to_le_bytes w64 (word_of a))) in
+          fills_does k size (offset + 8) v _ _ there most (omega (arith, within)) (does s m _ sm _ good (puts types sizes site.register site.block v offset new new m sm there room good.shows refl)))
 
       pub instruction_does : (op : Operation) → operation_fits types sizes behind op ≡ true → Within all (instruction_code b inline site (at line f op) ws code s).space
           → (m sm : Memory) → G (instruction_code b inline site (at line f op) ws code s).space m sm → Meant op m sm
@@ -209,6 +234,53 @@ module _ (all : List ℕ) (site : Site) (Holds : Memory → Type 0) (kept : (m m
       instruction_does operations.Exit fits inside m sm good = refl
       instruction_does (operations.Fail class) fits inside m sm good = refl
       instruction_does (operations.Use a) fits inside m sm good = go m sm good
+      instruction_does (operations.Move r p j t n size class) fits inside m sm good = calc (operations.Move r p j t n size class) fits m sm good
+      instruction_does (operations.Offset r p count) fits inside m sm good = calc (operations.Offset r p count) fits m sm good
+      instruction_does (operations.Same p q) fits inside m sm good = go m sm good
+      instruction_does (operations.Distance r p q n) fits inside m sm good = calc (operations.Distance r p q n) fits m sm good
+      instruction_does (operations.Relate r op p q) fits inside m sm good = calc (operations.Relate r op p q) fits m sm good
+      instruction_does (operations.Take v to source p count whole) fits inside m sm good = calc (operations.Take v to source p count whole) fits m sm good
+      instruction_does (operations.Put v p source to count whole) fits inside m sm good = calc (operations.Put v p source to count whole) fits m sm good
+      instruction_does (operations.Read v to p count) fits inside m sm good =
+          let same = operand_same p (left_of _ _ (left_of _ _ fits)) m sm good in
+          let there = test_less v (length sizes) (left_of _ _ (right_of _ _ fits)) in
+          let room = test_most (to + count) (slice_index sizes v) (right_of _ _ (right_of _ _ fits)) in
+          (λ i. ask (Read (same i) count) line f (λ a. begin code (with_blocks m (put_bytes m.blocks (site.block + v) to (bytes_in a)))))
+          ∙ same_ask (Read (register sm p) count) line f _ _ (λ a h.
+          let size = read_size (register sm p) count a h in
+          go _ _ (does s m _ sm _ good (puts types sizes site.register site.block v to (bytes_in a) (bytes_in a) m sm there (omega (arith, room, size)) good.shows refl)))
+      instruction_does (operations.Write p v source count first) fits inside m sm good =
+          let at = operand_same p (left_of _ _ (left_of _ _ fits)) m sm good in
+          let there = test_less v (length sizes) (left_of _ _ (right_of _ _ fits)) in
+          let same = ap (λ bs. take count (drop source bs)) (good.shows.blocks v there) in
+          λ i. ask (Write (at i) (same i) first) line f (λ a. go m sm good i)
+      instruction_does (operations.Look r p subscript) fits inside m sm good =
+          let same = operand_same p (left_of _ _ (right_of _ _ fits)) m sm good in
+          let there = test_less r (length types) (left_of _ _ (left_of _ _ fits)) in
+          (λ i. ask (Look (same i) subscript) line f (λ a. begin code (with_register m (site.register + r) (size_in a))))
+          ∙ same_ask (Look (register sm p) subscript) line f _ _ (λ a h. sets r (size_in a) m sm there good)
+      instruction_does (operations.Fill v q) fits inside m sm good =
+          let there = test_less v (length sizes) (left_of _ _ fits) in
+          let same = operand_same q (left_of _ _ (right_of _ _ fits)) m sm good in
+          let size : first_count m (site.block + v) (site.register + q) ≡ first_count sm v q = λ i. min (same i) (length (good.shows.blocks v there i)) in
+          let most : first_count sm v q ≤ slice_index sizes v = omega (arith, block_size types sizes site.register site.block sm v good.shows.extents) in
+          (λ i. fills behaving (word_count (size i) - 0) 0 line f (site.block + v) (size i) (8 * 0) (on code) m)
+          ∙ fills_does (word_count (first_count sm v q) - 0) (first_count sm v q) (8 * 0) v m sm there most (omega arith) good
+      instruction_does (operations.Alloc r v size readonly heap) fits inside m sm good =
+          let there = test_less r (length types) (left_of _ _ (left_of _ _ (left_of _ _ fits))) in
+          let source = test_less v (length sizes) (right_of _ _ (left_of _ _ fits)) in
+          let same = operand_same size (left_of _ _ (right_of _ _ fits)) m sm good in
+          (λ i. ask (Alloc (made_of readonly heap (take (same i) (good.shows.blocks v source i)))) line f (λ a. begin code (with_register m (site.register + r) (pointer_to (number_in a) 0))))
+          ∙ same_ask (Alloc (made_of readonly heap (first_bytes sm v size))) line f _ _ (λ a h. sets r (pointer_to (number_in a) 0) m sm there good)
+      instruction_does (operations.Die p) fits inside m sm good =
+          let same = operand_same p (left_of _ _ fits) m sm good in
+          λ i. ask (Die (object_of (same i))) line f (λ a. go m sm good i)
+      instruction_does (operations.Free p) fits inside m sm good =
+          let same = operand_same p (left_of _ _ fits) m sm good in
+          λ i. ask (Free (same i)) line f (λ a. go m sm good i)
+      instruction_does (operations.MayFail r) fits inside m sm good = fails_does limits.malloc_may_fail r m sm (test_less r (length types) (left_of _ _ fits)) good
+      instruction_does (operations.Limit x y) fits inside m sm good =
+          or_else_same _ _ line f _ _ (checks_same types sizes site.register site.block (checks.AtMost x y limits.malloc_limit) fits m sm good.shows) (go m sm good)
       instruction_does (operations.Call g first_ count into r) fits inside m sm good =
           inlines line f g first_ count into r code s sm (λ given. flat_meaning.at o ps 0 (received sm into r given))
           (test_most (first_ + count) (length sizes) (left_of _ _ (left_of _ _ fits))) (test_less into (length sizes) (right_of _ _ (left_of _ _ fits))) (test_less r (length types) (left_of _ _ (right_of _ _ fits)))

@@ -17,10 +17,11 @@ use Rattle.goto_prog.specs.declared.code.Condition.TheVariants as checks
 use Rattle.goto_prog.specs.declared.code.Operation.{Operation}
 use Rattle.goto_prog.specs.declared.code.Operation.TheVariants as operations
 use Rattle.goto_prog.specs.declared.code.Instruction.{Instruction}
-use Rattle.goto_prog.specs.Fitting.{is_there, is_register, is_wide, is_ranged, check_fits, is_some_block, operation_fits, code_fits}
+use Rattle.goto_prog.specs.Fitting.{is_there, is_register, is_pointer, is_wide, is_ranged, check_fits, is_some_block, operation_fits, code_fits}
 use Rattle.goto_prog.specs.Nodes.{Nodes, done, plain, repeats, node_count, nodes_fit, Routine, routine_fits, routines_fit}
 use Rattle.goto_prog.specs.Structured.{Bounded, tests, round_count, opened, first_left, first_fuel}
 use Rattle.goto_prog.specs.UnrolledCode.{is_flat}
+use Rattle.goto_prog.proofs.Places.{may_fail_fits}
 use Rattle.goto_unwind.specs.Unrolled.{Space, Handing, Site, Piece, Inline, piece, at, jump, renumbered_check, renumbered, passed_code, hand_code, argument_code, round_codes, instruction_code, nodes_code, body_code, first_space, with_frame, inlined, inline_at}
 use Rattle.goto_unwind.specs.Program.{first_site, first_piece}
 
@@ -58,6 +59,8 @@ is_plain (operations.Skip n) = false
 is_plain (operations.SkipIfZero a n) = false
 is_plain (operations.Call g first count into r) = false
 is_plain (operations.Return v) = false
+is_plain (operations.MayFail r) = false
+is_plain (operations.Limit x y) = false
 is_plain _ = true
 
 -- ---- registers and blocks that lie in a space, from these on
@@ -103,6 +106,12 @@ module _ (r0 b0 : ℕ) (rs : List IntegerType) (bs : List ℕ) (t : Space) (lies
   within : (v offset count : ℕ) → is_within bs v offset count ≡ true → is_within t.blocks (b0 + v) offset count ≡ true
   within v offset count h = sized (λ n. nat_le (offset + count) n) v h
 
+  pointer : (r : ℕ) → is_pointer rs r ≡ true → is_pointer t.registers (r0 + r) ≡ true
+  pointer r h = register types.UnsignedLong r h
+
+  block_there : (v : ℕ) → nat_lt v (length bs) ≡ true → nat_lt (b0 + v) (length t.blocks) ≡ true
+  block_there v h = less (b0 + v) (length t.blocks) (lies.blocks v (less_of v (length bs) h)).0
+
   check_moved : (c : Condition) → check_fits rs c ≡ true → check_fits t.registers (renumbered_check r0 c) ≡ true
   check_moved (checks.Divisor b) h = there b h
   check_moved (checks.Quotient u a b) h = both_true (both_true (left_of _ _ (left_of _ _ h)) (register u a (right_of _ _ (left_of _ _ h)))) (wide u b (right_of _ _ h))
@@ -111,6 +120,10 @@ module _ (r0 b0 : ℕ) (rs : List IntegerType) (bs : List ℕ) (t : Space) (lies
   check_moved (checks.Count u c a) h = register c a h
   check_moved (checks.LeftShift u c a b) h = both_true (both_true (left_of _ _ (left_of _ _ h)) (register u a (right_of _ _ (left_of _ _ h)))) (register c b (right_of _ _ h))
   check_moved (checks.Returned a) h = there a h
+  check_moved (checks.Within p i u n size class) h = both_true (both_true (pointer p (left_of _ _ (left_of _ _ h))) (register u i (right_of _ _ (left_of _ _ h)))) (pointer size (right_of _ _ h))
+  check_moved (checks.SameObject p q) h = both_true (pointer p (left_of _ _ h)) (pointer q (right_of _ _ h))
+  check_moved (checks.Inside p count whole) h = pointer p h
+  check_moved (checks.AtMost x y most) h = both_true (pointer x (left_of _ _ h)) (pointer y (right_of _ _ h))
 
   copied : (r a : ℕ) → operation_fits rs bs 0 (operations.Copy r a) ≡ true → operation_fits t.registers t.blocks 0 (operations.Copy (r0 + r) (r0 + a)) ≡ true
   copied r a h =
@@ -144,6 +157,23 @@ module _ (r0 b0 : ℕ) (rs : List IntegerType) (bs : List ℕ) (t : Space) (lies
   renumbered_fits (operations.Use a) n k h p = there a h
   renumbered_fits (operations.Call g first count into r) n k h p = absurd (false≢true p)
   renumbered_fits (operations.Return v) n k h p = absurd (false≢true p)
+  renumbered_fits (operations.MayFail r) n k h p = absurd (false≢true p)
+  renumbered_fits (operations.Limit x y) n k h p = absurd (false≢true p)
+  renumbered_fits (operations.Move r q i u m size class) n k h p = both_true (pointer r (left_of _ _ h)) (check_moved (checks.Within q i u m size class) (right_of _ _ h))
+  renumbered_fits (operations.Offset r q count) n k h p = both_true (pointer r (left_of _ _ h)) (pointer q (right_of _ _ h))
+  renumbered_fits (operations.Same q r) n k h p = both_true (pointer q (left_of _ _ h)) (pointer r (right_of _ _ h))
+  renumbered_fits (operations.Distance r q s m) n k h p =
+      both_true (both_true (both_true (register types.Long r (left_of _ _ (left_of _ _ (left_of _ _ h)))) (pointer q (right_of _ _ (left_of _ _ (left_of _ _ h))))) (pointer s (right_of _ _ (left_of _ _ h)))) (right_of _ _ h)
+  renumbered_fits (operations.Relate r op q s) n k h p = both_true (both_true (register types.Int r (left_of _ _ (left_of _ _ h))) (pointer q (right_of _ _ (left_of _ _ h)))) (pointer s (right_of _ _ h))
+  renumbered_fits (operations.Take v to w q count whole) n k h p = both_true (both_true (pointer q (left_of _ _ (left_of _ _ h))) (within v to count (right_of _ _ (left_of _ _ h)))) (sized (λ x. whole == x) w (right_of _ _ h))
+  renumbered_fits (operations.Put v q w to count whole) n k h p = both_true (both_true (pointer q (left_of _ _ (left_of _ _ h))) (within w to count (right_of _ _ (left_of _ _ h)))) (sized (λ x. whole == x) v (right_of _ _ h))
+  renumbered_fits (operations.Read v to q count) n k h p = both_true (pointer q (left_of _ _ h)) (within v to count (right_of _ _ h))
+  renumbered_fits (operations.Write q v from count first) n k h p = both_true (pointer q (left_of _ _ h)) (within v from count (right_of _ _ h))
+  renumbered_fits (operations.Look r q subscript) n k h p = both_true (pointer r (left_of _ _ h)) (pointer q (right_of _ _ h))
+  renumbered_fits (operations.Fill v r) n k h p = both_true (block_there v (left_of _ _ h)) (pointer r (right_of _ _ h))
+  renumbered_fits (operations.Alloc r v size readonly heap) n k h p = both_true (both_true (pointer r (left_of _ _ (left_of _ _ h))) (block_there v (right_of _ _ (left_of _ _ h)))) (pointer size (right_of _ _ h))
+  renumbered_fits (operations.Die q) n k h p = pointer q h
+  renumbered_fits (operations.Free q) n k h p = pointer q h
 
 -- ---- spaces that grow
 
@@ -210,6 +240,22 @@ module _ (b : Bounded) where
     instruction_grows line f operations.Exit marks rest space = itself space
     instruction_grows line f (operations.Fail class) marks rest space = itself space
     instruction_grows line f (operations.Use a) marks rest space = itself space
+    instruction_grows line f (operations.Move into p i t n size class) marks rest space = itself space
+    instruction_grows line f (operations.Offset into p count) marks rest space = itself space
+    instruction_grows line f (operations.Same p q) marks rest space = itself space
+    instruction_grows line f (operations.Distance into p q n) marks rest space = itself space
+    instruction_grows line f (operations.Relate into op p q) marks rest space = itself space
+    instruction_grows line f (operations.Take block to p q count whole) marks rest space = itself space
+    instruction_grows line f (operations.Put block p from to count whole) marks rest space = itself space
+    instruction_grows line f (operations.Read block to p count) marks rest space = itself space
+    instruction_grows line f (operations.Write p block from count first) marks rest space = itself space
+    instruction_grows line f (operations.Look into p subscript) marks rest space = itself space
+    instruction_grows line f (operations.Fill block count) marks rest space = itself space
+    instruction_grows line f (operations.Alloc into block size readonly heap) marks rest space = itself space
+    instruction_grows line f (operations.Die p) marks rest space = itself space
+    instruction_grows line f (operations.Free p) marks rest space = itself space
+    instruction_grows line f (operations.MayFail into) marks rest space = itself space
+    instruction_grows line f (operations.Limit x y) marks rest space = itself space
     instruction_grows line f (operations.Skip n) marks rest space = itself space
     instruction_grows line f (operations.SkipIfZero a n) marks rest space = itself space
     instruction_grows line f (operations.Return v) marks rest space = itself space
@@ -388,6 +434,15 @@ module _ (b : Bounded) (t : Space) (zero_there : 0 < length t.registers) where
         → (rest : List Instruction) (space : Space) → Within (inline caller line f g first count into r rest space).space t → Good rest → Good (inline caller line f g first count into r rest space).code
 
   module _ (inline : Inline) (fine : Fine inline) (site : Site) where
+    fails_good : (may_fail : Bool) → Sited site → (line f r n : ℕ) → is_register site.routine.registers r types.Int ≡ true → (rest : List Instruction) → Good rest
+        → Good (at line f (renumbered site.register site.block (if may_fail then operations.Draw r 1 else operations.Constant r 0)) ∷ rest)
+    fails_good true sited line f r n h rest good =
+        more (at line f (renumbered site.register site.block (operations.Draw r 1))) rest
+        (renumbered_fits site.register site.block site.routine.registers site.routine.blocks t sited.lies (operations.Draw r 1) n (length rest) (may_fail_fits site.routine.registers site.routine.blocks n true r h) refl) refl good
+    fails_good false sited line f r n h rest good =
+        more (at line f (renumbered site.register site.block (operations.Constant r 0))) rest
+        (renumbered_fits site.register site.block site.routine.registers site.routine.blocks t sited.lies (operations.Constant r 0) n (length rest) (may_fail_fits site.routine.registers site.routine.blocks n false r h) refl) refl good
+
     instruction_good : Sited site → (line f : ℕ) (o : Operation) (n : ℕ) → operation_fits site.routine.registers site.routine.blocks n o ≡ true → (marks : List ℕ) (rest : List Instruction) (space : Space)
         → Within (instruction_code b inline site (at line f o) marks rest space).space t → Good rest → Good (instruction_code b inline site (at line f o) marks rest space).code
     instruction_good sited line f (operations.Constant into bits) n h marks rest space inside good = more (at line f (renumbered site.register site.block (operations.Constant into bits))) rest (renumbered_fits site.register site.block site.routine.registers site.routine.blocks t sited.lies (operations.Constant into bits) n (length rest) h refl) refl good
@@ -410,6 +465,22 @@ module _ (b : Bounded) (t : Space) (zero_there : 0 < length t.registers) where
     instruction_good sited line f operations.Exit n h marks rest space inside good = more (at line f (renumbered site.register site.block operations.Exit)) rest (renumbered_fits site.register site.block site.routine.registers site.routine.blocks t sited.lies operations.Exit n (length rest) h refl) refl good
     instruction_good sited line f (operations.Fail class) n h marks rest space inside good = more (at line f (renumbered site.register site.block (operations.Fail class))) rest (renumbered_fits site.register site.block site.routine.registers site.routine.blocks t sited.lies (operations.Fail class) n (length rest) h refl) refl good
     instruction_good sited line f (operations.Use a) n h marks rest space inside good = more (at line f (renumbered site.register site.block (operations.Use a))) rest (renumbered_fits site.register site.block site.routine.registers site.routine.blocks t sited.lies (operations.Use a) n (length rest) h refl) refl good
+    instruction_good sited line f (operations.Move into p i u j size class) n h marks rest space inside good = more (at line f (renumbered site.register site.block (operations.Move into p i u j size class))) rest (renumbered_fits site.register site.block site.routine.registers site.routine.blocks t sited.lies (operations.Move into p i u j size class) n (length rest) h refl) refl good
+    instruction_good sited line f (operations.Offset into p count) n h marks rest space inside good = more (at line f (renumbered site.register site.block (operations.Offset into p count))) rest (renumbered_fits site.register site.block site.routine.registers site.routine.blocks t sited.lies (operations.Offset into p count) n (length rest) h refl) refl good
+    instruction_good sited line f (operations.Same p q) n h marks rest space inside good = more (at line f (renumbered site.register site.block (operations.Same p q))) rest (renumbered_fits site.register site.block site.routine.registers site.routine.blocks t sited.lies (operations.Same p q) n (length rest) h refl) refl good
+    instruction_good sited line f (operations.Distance into p q j) n h marks rest space inside good = more (at line f (renumbered site.register site.block (operations.Distance into p q j))) rest (renumbered_fits site.register site.block site.routine.registers site.routine.blocks t sited.lies (operations.Distance into p q j) n (length rest) h refl) refl good
+    instruction_good sited line f (operations.Relate into op p q) n h marks rest space inside good = more (at line f (renumbered site.register site.block (operations.Relate into op p q))) rest (renumbered_fits site.register site.block site.routine.registers site.routine.blocks t sited.lies (operations.Relate into op p q) n (length rest) h refl) refl good
+    instruction_good sited line f (operations.Take block to from p count whole) n h marks rest space inside good = more (at line f (renumbered site.register site.block (operations.Take block to from p count whole))) rest (renumbered_fits site.register site.block site.routine.registers site.routine.blocks t sited.lies (operations.Take block to from p count whole) n (length rest) h refl) refl good
+    instruction_good sited line f (operations.Put block p from to count whole) n h marks rest space inside good = more (at line f (renumbered site.register site.block (operations.Put block p from to count whole))) rest (renumbered_fits site.register site.block site.routine.registers site.routine.blocks t sited.lies (operations.Put block p from to count whole) n (length rest) h refl) refl good
+    instruction_good sited line f (operations.Read block to p count) n h marks rest space inside good = more (at line f (renumbered site.register site.block (operations.Read block to p count))) rest (renumbered_fits site.register site.block site.routine.registers site.routine.blocks t sited.lies (operations.Read block to p count) n (length rest) h refl) refl good
+    instruction_good sited line f (operations.Write p block from count first) n h marks rest space inside good = more (at line f (renumbered site.register site.block (operations.Write p block from count first))) rest (renumbered_fits site.register site.block site.routine.registers site.routine.blocks t sited.lies (operations.Write p block from count first) n (length rest) h refl) refl good
+    instruction_good sited line f (operations.Look into p subscript) n h marks rest space inside good = more (at line f (renumbered site.register site.block (operations.Look into p subscript))) rest (renumbered_fits site.register site.block site.routine.registers site.routine.blocks t sited.lies (operations.Look into p subscript) n (length rest) h refl) refl good
+    instruction_good sited line f (operations.Fill block count) n h marks rest space inside good = more (at line f (renumbered site.register site.block (operations.Fill block count))) rest (renumbered_fits site.register site.block site.routine.registers site.routine.blocks t sited.lies (operations.Fill block count) n (length rest) h refl) refl good
+    instruction_good sited line f (operations.Alloc into block size readonly heap) n h marks rest space inside good = more (at line f (renumbered site.register site.block (operations.Alloc into block size readonly heap))) rest (renumbered_fits site.register site.block site.routine.registers site.routine.blocks t sited.lies (operations.Alloc into block size readonly heap) n (length rest) h refl) refl good
+    instruction_good sited line f (operations.Die p) n h marks rest space inside good = more (at line f (renumbered site.register site.block (operations.Die p))) rest (renumbered_fits site.register site.block site.routine.registers site.routine.blocks t sited.lies (operations.Die p) n (length rest) h refl) refl good
+    instruction_good sited line f (operations.Free p) n h marks rest space inside good = more (at line f (renumbered site.register site.block (operations.Free p))) rest (renumbered_fits site.register site.block site.routine.registers site.routine.blocks t sited.lies (operations.Free p) n (length rest) h refl) refl good
+    instruction_good sited line f (operations.Limit x y) n h marks rest space inside good = more (at line f (renumbered site.register site.block (operations.Check (checks.AtMost x y b.limits.malloc_limit)))) rest (renumbered_fits site.register site.block site.routine.registers site.routine.blocks t sited.lies (operations.Check (checks.AtMost x y b.limits.malloc_limit)) n (length rest) h refl) refl good
+    instruction_good sited line f (operations.MayFail r) n h marks rest space inside good = fails_good b.limits.malloc_may_fail sited line f r n h rest good
     instruction_good sited line f (operations.Skip m) n h marks rest space inside good = more (at line f (operations.Skip (jump rest (slice_index marks m)))) rest (jump_fits rest (slice_index marks m)) refl good
     instruction_good sited line f (operations.SkipIfZero a m) n h marks rest space inside good =
         more (at line f (operations.SkipIfZero (site.register + a) (jump rest (slice_index marks m)))) rest (both_true (there site.register site.block site.routine.registers site.routine.blocks t sited.lies a (left_of _ _ h)) (jump_fits rest (slice_index marks m))) refl good

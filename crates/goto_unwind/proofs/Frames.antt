@@ -1,5 +1,5 @@
 -- The registers and blocks of an activation among all, and what its operations do there.
-use Rattle.std.proofs.Common.{◌≡◌, ◌≢◌, ℕ, zero, suc, ◌+◌, ◌-◌, ◌<◌, ◌≤◌, Bool, true, false, take, drop, List, [], ◌∷◌, ◌++◌, length, map, None, refl, sym, ap, ◌∙◌, subst, arith}
+use Rattle.std.proofs.Common.{◌≡◌, ◌≢◌, ℕ, zero, suc, ◌+◌, ◌-◌, ◌*◌, ◌<◌, ◌≤◌, Bool, true, false, take, drop, List, [], ◌∷◌, ◌++◌, length, map, None, refl, sym, ap, ◌∙◌, subst, arith}
 use Rattle.std.specs.Prelude.{not, ◌==◌, ◌&&◌, nat_lt, nat_le, slice_index, slice_set, if◌then◌else◌}
 use Rattle.std.proofs.lemmas.Bool.{false≢true}
 use Rattle.std.proofs.lemmas.Bool.Decides.{nat_tests}
@@ -7,7 +7,10 @@ use Rattle.std.proofs.Math.Seq.{map-set_same}
 use Rattle.std.proofs.Math.ListN.{get_or-map}
 use Rattle.std.proofs.lemmas.List.{get_or-set_same, get_or-set_other, length-set, length-replicate, length-take-le, length-drop}
 use Rattle.c_types.specs.declared.integers.IntegerType.{IntegerType}
-use Rattle.core_tree.specs.Operations.{unless, division_check, count_check, left_shift_check, arithmetic_check, sign_check, truth_bits, converted, arithmetic_value, sign_value, compared}
+use Rattle.core_tree.specs.Operations.{number, unless, division_check, count_check, left_shift_check, arithmetic_check, sign_check, truth_bits, converted, arithmetic_value, sign_value, compared}
+use Rattle.actions.specs.Pointer.{object_of, offset_of}
+use Rattle.c_types.specs.declared.integers.IntegerType.TheVariants.{UnsignedLong}
+use Rattle.c_values.specs.Pointers.{pointer_at, further, in_range, offset_by, elements_between}
 use Rattle.c_values.specs.Variables.{Variables, block_of, put_at, put_bytes, zeros, low_bytes, number_at, read_variable}
 use Rattle.goto_prog.specs.declared.code.Condition.{Condition}
 use Rattle.goto_prog.specs.declared.code.Condition.TheVariants as checks
@@ -19,7 +22,8 @@ use Rattle.words.specs.declared.check.Class.TheVariants as classes
 use Rattle.actions.specs.Behaviour.{Behaviour}
 use Rattle.goto_prog.specs.declared.code.Instruction.{Instruction}
 use Rattle.goto_prog.specs.Threads.{behaving}
-use Rattle.goto_prog.specs.Meaning.{Memory, Reading, register, with_register, with_blocks, bytes_of, calculated, check_class, return_check, operates}
+use Rattle.goto_prog.specs.Meaning.{Memory, Reading, register, with_register, with_blocks, bytes_of, taken_at, put_within, calculated, check_class, return_check, operates}
+use Rattle.goto_prog.proofs.Blocks.{within_size}
 use Rattle.goto_prog.specs.Meaning as flat_meaning
 use Rattle.std.specs.Int.{to_le_bytes, w64}
 use Rattle.goto_unwind.specs.Unrolled.{Space, renumbered, renumbered_check}
@@ -249,6 +253,48 @@ module _ (types : List IntegerType) (sizes : List ℕ) (r0 b0 : ℕ) where
   calculates behind (operations.Use a) fits m sm shows = (shows, nowhere m)
   calculates behind (operations.Call f first count into r) fits m sm shows = (shows, nowhere m)
   calculates behind (operations.Return v) fits m sm shows = (shows, nowhere m)
+  calculates behind (operations.Move r p j t n size class) fits m sm shows =
+      let first = shows.registers p (operand p _ (left_of _ _ (left_of _ _ (right_of _ _ fits)))) in
+      let second = shows.registers j (operand j _ (right_of _ _ (left_of _ _ (right_of _ _ fits)))) in
+      set_as r (pointer_at (register m (r0 + p)) (offset_by (offset_of (register m (r0 + p))) (number t (register m (r0 + j))) n)) (pointer_at (register sm p) (offset_by (offset_of (register sm p)) (number t (register sm j)) n)) m sm (operand r _ (left_of _ _ fits)) shows
+      (λ i. pointer_at (first i) (offset_by (offset_of (first i)) (number t (second i)) n))
+  calculates behind (operations.Offset r p count) fits m sm shows =
+      set_as r (further (register m (r0 + p)) count) (further (register sm p) count) m sm (operand r _ (left_of _ _ fits)) shows (ap (λ x. further x count) (shows.registers p (operand p _ (right_of _ _ fits))))
+  calculates behind (operations.Same p q) fits m sm shows = (shows, nowhere m)
+  calculates behind (operations.Distance r p q n) fits m sm shows =
+      let first = shows.registers p (operand p _ (right_of _ _ (left_of _ _ (left_of _ _ fits)))) in
+      let second = shows.registers q (operand q _ (right_of _ _ (left_of _ _ fits))) in
+      set_as r (elements_between (register m (r0 + p)) (register m (r0 + q)) n) (elements_between (register sm p) (register sm q) n) m sm (operand r _ (left_of _ _ (left_of _ _ (left_of _ _ fits)))) shows (λ i. elements_between (first i) (second i) n)
+  calculates behind (operations.Relate r op p q) fits m sm shows =
+      let first = shows.registers p (operand p _ (right_of _ _ (left_of _ _ fits))) in
+      let second = shows.registers q (operand q _ (right_of _ _ fits)) in
+      set_as r (truth_bits (compared op UnsignedLong (offset_of (register m (r0 + p))) (offset_of (register m (r0 + q))))) (truth_bits (compared op UnsignedLong (offset_of (register sm p)) (offset_of (register sm q)))) m sm (operand r _ (left_of _ _ (left_of _ _ fits))) shows
+      (λ i. truth_bits (compared op UnsignedLong (offset_of (first i)) (offset_of (second i))))
+  calculates behind (operations.Take b to from p count whole) fits m sm shows =
+      let there = test_less b (length sizes) (left_of _ _ (right_of _ _ (left_of _ _ fits))) in
+      let inside = test_most (to + count) (slice_index sizes b) (right_of _ _ (right_of _ _ (left_of _ _ fits))) in
+      let source = test_less from (length sizes) (left_of _ _ (right_of _ _ fits)) in
+      let at = shows.registers p (operand p _ (left_of _ _ (left_of _ _ fits))) in
+      puts b to (taken_at count (offset_of (register m (r0 + p))) (block_of m.blocks (b0 + from))) (taken_at count (offset_of (register sm p)) (block_of sm.blocks from)) m sm there
+      (omega (arith, inside, short count (drop (offset_of (register sm p)) (block_of sm.blocks from) ++ zeros count))) shows
+      (λ i. taken_at count (offset_of (at i)) (shows.blocks from source i))
+  calculates behind (operations.Put b p from to count whole) fits m sm shows =
+      let there = test_less b (length sizes) (left_of _ _ (right_of _ _ fits)) in
+      let source = test_less from (length sizes) (left_of _ _ (right_of _ _ (left_of _ _ fits))) in
+      let at = shows.registers p (operand p _ (left_of _ _ (left_of _ _ fits))) in
+      let now = put_within (offset_of (register sm p)) (bytes_of sm.blocks from to count) (block_of sm.blocks b) in
+      subst (λ (bs : List ℕ). Does m (with_blocks m (slice_set m.blocks (b0 + b) bs)) (with_blocks sm (slice_set sm.blocks b now)))
+      (sym (λ i. put_within (offset_of (at i)) (take count (drop to (shows.blocks from source i))) (shows.blocks b there i)))
+      (sets_block b now m sm there (within_size (offset_of (register sm p)) (bytes_of sm.blocks from to count) (block_of sm.blocks b)) shows)
+  calculates behind (operations.Read b to p count) fits m sm shows = (shows, nowhere m)
+  calculates behind (operations.Write p b from count first) fits m sm shows = (shows, nowhere m)
+  calculates behind (operations.Look r p subscript) fits m sm shows = (shows, nowhere m)
+  calculates behind (operations.Fill b r) fits m sm shows = (shows, nowhere m)
+  calculates behind (operations.Alloc r b size readonly heap) fits m sm shows = (shows, nowhere m)
+  calculates behind (operations.Die p) fits m sm shows = (shows, nowhere m)
+  calculates behind (operations.Free p) fits m sm shows = (shows, nowhere m)
+  calculates behind (operations.MayFail r) fits m sm shows = (shows, nowhere m)
+  calculates behind (operations.Limit x y) fits m sm shows = (shows, nowhere m)
 
   -- a condition is broken there where it is on the activation's own registers
   pub checks_same : (c : Condition) → check_fits types c ≡ true → (m sm : Memory) → Shows m sm → check_class (renumbered_check r0 c) m ≡ check_class c sm
@@ -268,6 +314,22 @@ module _ (types : List IntegerType) (sizes : List ℕ) (r0 b0 : ℕ) where
       let second = shows.registers b (operand b _ (right_of _ _ fits)) in
       λ i. left_shift_check t u (first i) (second i)
   checks_same (checks.Returned a) fits m sm shows = ap return_check (shows.registers a (test_less a (length types) fits))
+  checks_same (checks.Within p j t n size class) fits m sm shows =
+      let first = shows.registers p (operand p _ (left_of _ _ (left_of _ _ fits))) in
+      let second = shows.registers j (operand j _ (right_of _ _ (left_of _ _ fits))) in
+      let third = shows.registers size (operand size _ (right_of _ _ fits)) in
+      λ i. unless (in_range (offset_by (offset_of (first i)) (number t (second i)) n) (third i)) class
+  checks_same (checks.SameObject p q) fits m sm shows =
+      let first = shows.registers p (operand p _ (left_of _ _ fits)) in
+      let second = shows.registers q (operand q _ (right_of _ _ fits)) in
+      λ i. unless (object_of (first i) == object_of (second i)) classes.Pointer
+  checks_same (checks.Inside p count whole) fits m sm shows =
+      let first = shows.registers p (operand p _ fits) in
+      λ i. unless (nat_le (offset_of (first i) + count) whole) classes.Bounds
+  checks_same (checks.AtMost x y most) fits m sm shows =
+      let first = shows.registers x (operand x _ (left_of _ _ fits)) in
+      let second = shows.registers y (operand y _ (right_of _ _ fits)) in
+      λ i. unless (nat_le (first i * second i) most) classes.MallocLimit
 
 -- ---- flat code
 

@@ -15,4 +15,7 @@ pub mod Growth
 pub mod CodeMeaning
 pub mod CallMeaning
 pub mod SameCode
+pub mod Allocating
+pub mod StaticCode
 pub mod LocalRuns
+pub mod Others

@@ -131,8 +131,8 @@ module _ (m : Making) (l : Level) (rest : Nodes) where
   one = omega arith
 
   by_front : (line f : ℕ) (o : Operation) → 0 < nodes_weight b w (plain (at line f o) done)
-      → weight (placed (front_of l.site line f o (own_marks l m.marks) m.code) (with_level (taken l rest) m)) < weight (ahead (followed rest (plain (at line f o) done)))
-  by_front line f o some = placed_lighter line f 0 0 0 0 0 (front_of l.site line f o (own_marks l m.marks) m.code) o some
+      → weight (placed (front_of m.limits l.site line f o (own_marks l m.marks) m.code) (with_level (taken l rest) m)) < weight (ahead (followed rest (plain (at line f o) done)))
+  by_front line f o some = placed_lighter line f 0 0 0 0 0 (front_of m.limits l.site line f o (own_marks l m.marks) m.code) o some
 
   does_lighter : (line f : ℕ) (o : Operation) → weight (does l rest line f o m) < weight (ahead (followed rest (plain (at line f o) done)))
   does_lighter line f (operations.Constant into bits) = by_front line f (operations.Constant into bits) one
@@ -157,6 +157,22 @@ module _ (m : Making) (l : Level) (rest : Nodes) where
   does_lighter line f operations.Exit = by_front line f operations.Exit one
   does_lighter line f (operations.Fail class) = by_front line f (operations.Fail class) one
   does_lighter line f (operations.Use a) = by_front line f (operations.Use a) one
+  does_lighter line f (operations.Move into p i t n size class) = by_front line f (operations.Move into p i t n size class) one
+  does_lighter line f (operations.Offset into p count) = by_front line f (operations.Offset into p count) one
+  does_lighter line f (operations.Same p q) = by_front line f (operations.Same p q) one
+  does_lighter line f (operations.Distance into p q n) = by_front line f (operations.Distance into p q n) one
+  does_lighter line f (operations.Relate into op p q) = by_front line f (operations.Relate into op p q) one
+  does_lighter line f (operations.Take block to p q count whole) = by_front line f (operations.Take block to p q count whole) one
+  does_lighter line f (operations.Put block p from to count whole) = by_front line f (operations.Put block p from to count whole) one
+  does_lighter line f (operations.Read block to p count) = by_front line f (operations.Read block to p count) one
+  does_lighter line f (operations.Write p block from count first) = by_front line f (operations.Write p block from count first) one
+  does_lighter line f (operations.Look into p subscript) = by_front line f (operations.Look into p subscript) one
+  does_lighter line f (operations.Fill block count) = by_front line f (operations.Fill block count) one
+  does_lighter line f (operations.Alloc into block size readonly heap) = by_front line f (operations.Alloc into block size readonly heap) one
+  does_lighter line f (operations.Die p) = by_front line f (operations.Die p) one
+  does_lighter line f (operations.Free p) = by_front line f (operations.Free p) one
+  does_lighter line f (operations.MayFail into) = by_front line f (operations.MayFail into) one
+  does_lighter line f (operations.Limit x y) = by_front line f (operations.Limit x y) one
   does_lighter line f (operations.Call g first count into r) = calls_lighter line f g first count into r
   does_lighter line f (operations.Return v) = by_front line f (operations.Return v) one
 

@@ -20,6 +20,7 @@ use Rattle.goto_prog.specs.Nodes.{Routine, routines_fit, view_procedures}
 use Rattle.goto_prog.specs.Same.{DoSame}
 use Rattle.words.specs.declared.check.Class.TheVariants.{Recursion}
 use Rattle.goto_prog.specs.Structured.{Bounded, passed, enters, opened, activation, first_left, first_fuel, leaves, runs_at, entry_memory, can_start}
+use Rattle.goto_prog.proofs.Stepping.{free}
 use Rattle.goto_unwind.specs.Unrolled.{Space, first_space, with_frame, Site, Piece, at, inline_at, nodes_code}
 use Rattle.goto_unwind.specs.Program.{first_site, first_piece, listing_of, first_listing, unrolled, starts_none}
 use Rattle.goto_unwind.proofs.Frames.{left_of, right_of, Below, Good, on, begin, from_end_begin, from_end_front, itself}
@@ -30,30 +31,7 @@ use Rattle.goto_unwind.proofs.CallMeaning.{zeros_at, none_given, entry_extents, 
 -- ---- places don't matter
 
 no_place : (n line f : ℕ) (op : Operation) (ps : List (Memory → Behaviour)) → operates behaving false n line f op ps ≡ operates behaving false 0 line f op ps
-no_place n line f (operations.Constant r bits) ps = refl
-no_place n line f (operations.Copy r a) ps = refl
-no_place n line f (operations.Load r t v offset) ps = refl
-no_place n line f (operations.Store v offset count a) ps = refl
-no_place n line f (operations.Clear v size) ps = refl
-no_place n line f (operations.CopyBytes into to source offset count) ps = refl
-no_place n line f (operations.Convert r t u a) ps = refl
-no_place n line f (operations.Sign r op t a) ps = refl
-no_place n line f (operations.Arithmetic r op t u x y) ps = refl
-no_place n line f (operations.Compare r op t x y) ps = refl
-no_place n line f (operations.IsZero r a) ps = refl
-no_place n line f (operations.Skip k) ps = refl
-no_place n line f (operations.SkipIfZero a k) ps = refl
-no_place n line f (operations.Check c) ps = refl
-no_place n line f (operations.Assert a) ps = refl
-no_place n line f (operations.Assume a) ps = refl
-no_place n line f (operations.Draw r bits) ps = refl
-no_place n line f (operations.ReadObject v to k offset count) ps = refl
-no_place n line f (operations.WriteObject k offset v source count) ps = refl
-no_place n line f operations.Exit ps = refl
-no_place n line f (operations.Fail class) ps = refl
-no_place n line f (operations.Use a) ps = refl
-no_place n line f (operations.Call g first count into r) ps = refl
-no_place n line f (operations.Return v) ps = refl
+no_place n line f op ps = λ k m. free false n line f op ps m k
 
 places_are : (n : ℕ) (code : List Instruction) → flat_meaning.places behaving false n code ≡ on code
 places_are n [] = refl
@@ -159,15 +137,15 @@ module _ (functions : List Routine) (limits : Limits) (fit : routines_fit functi
 
 -- ---- the program
 
-equal_none : (k : ℕ) → 1 ≤ k → (k == 0) ≡ false
+pub equal_none : (k : ℕ) → 1 ≤ k → (k == 0) ≡ false
 equal_none k positive = grind (arith, nat_tests)
 
-at_replicate : (n k x : ℕ) → k < n → slice_index (replicate n x) k ≡ x
+pub at_replicate : (n k x : ℕ) → k < n → slice_index (replicate n x) k ≡ x
 at_replicate zero k x less = absurd (omega (arith, less))
 at_replicate (suc n) zero x less = refl
 at_replicate (suc n) (suc k) x less = at_replicate n k x (omega (arith, less))
 
-found_less : (functions : List Routine) (k : ℕ) → k < length functions → (p : Routine) × (slice_get functions k ≡ Some p)
+pub found_less : (functions : List Routine) (k : ℕ) → k < length functions → (p : Routine) × (slice_get functions k ≡ Some p)
 found_less [] k less = absurd (omega (arith, less))
 found_less (p ∷ functions) zero less = (p, refl)
 found_less (p ∷ functions) (suc k) less = found_less functions k (omega (arith, less))
@@ -204,31 +182,35 @@ not_startable (p ∷ functions) zero none = inverse p.startable (left_of (not p.
     inverse false h = refl
 not_startable (p ∷ functions) (suc f) none = not_startable functions f (right_of (not p.startable) _ none)
 
+pub main_there : (g : GotoFile) → g.main < length g.functions → g.main < length (view_procedures g.functions)
+main_there g less = omega (arith, less, as_many g.functions)
+  where
+    as_many : (xs : List _) → length (view_procedures xs) ≡ length xs
+    as_many [] = refl
+    as_many (x ∷ xs) = omega (arith, as_many xs)
+
+-- no thread is started in unrolled code
+pub flat_none : (g : GotoFile) (limits : Limits) (f : ℕ) → (flat.plain_thread (unrolled g limits)).program.can_start f ≡ false
+flat_none g limits zero = listing_none (slice_get (view_procedures g.functions) g.main)
+  where
+    listing_none : (x : Option Routine) → (first_listing (bounded_file false g limits) g.main x).startable ≡ false
+    listing_none None = refl
+    listing_none (Some p) = refl
+flat_none g limits (suc f) = refl
+
 pub unrolled_same : (g : GotoFile) (limits : Limits) → 1 ≤ limits.unwind → routines_fit (view_procedures g.functions) ≡ true → g.main < length g.functions → starts_none (view_procedures g.functions) ≡ true
     → DoSame (flat.plain_thread (unrolled g limits)) (structured.plain_thread g limits)
 unrolled_same g limits some fit less none = record {
   behaves = by_main (found_less functions g.main less_here).0 (found_less functions g.main less_here).1;
-  startable = λ f. flat_none f ∙ sym (not_startable functions f none);
-  others = λ f v starts small. absurd (false≢true (sym (flat_none f) ∙ starts));
+  startable = λ f. flat_none g limits f ∙ sym (not_startable functions f none);
+  others = λ f v starts small. absurd (false≢true (sym (flat_none g limits f) ∙ starts));
 }
   where
     functions : List Routine
     functions = view_procedures g.functions
 
     less_here : g.main < length functions
-    less_here = omega (arith, less, as_many g.functions)
-      where
-        as_many : (xs : List _) → length (view_procedures xs) ≡ length xs
-        as_many [] = refl
-        as_many (x ∷ xs) = omega (arith, as_many xs)
-
-    flat_none : (f : ℕ) → (flat.plain_thread (unrolled g limits)).program.can_start f ≡ false
-    flat_none zero = listing_none (slice_get functions g.main)
-      where
-        listing_none : (x : Option Routine) → (first_listing (bounded_file false g limits) g.main x).startable ≡ false
-        listing_none None = refl
-        listing_none (Some p) = refl
-    flat_none (suc f) = refl
+    less_here = main_there g less
 
     by_main : (p : Routine) → slice_get functions g.main ≡ Some p → (flat.plain_thread (unrolled g limits)).behaves ≡ (structured.plain_thread g limits).behaves
     by_main p found =

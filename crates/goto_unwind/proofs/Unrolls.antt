@@ -171,9 +171,9 @@ module _ (m : Making) (l : Level) (rest : Nodes) where
 
   -- ---- all operations
 
-  by_front : (line f : ℕ) (o : Operation) → instruction_code b inl l.site (at line f o) own m.code m.space ≡ piece (front_of l.site line f o own m.code ++ m.code) [] m.space
-      → outcome (placed (front_of l.site line f o own m.code) (with_level (taken l rest) m)) ≡ outcome (with_level (with_ahead (followed rest (plain (at line f o) done))) m)
-  by_front line f o same = placed_same (at line f o) (front_of l.site line f o own m.code) same
+  by_front : (line f : ℕ) (o : Operation) → instruction_code b inl l.site (at line f o) own m.code m.space ≡ piece (front_of m.limits l.site line f o own m.code ++ m.code) [] m.space
+      → outcome (placed (front_of m.limits l.site line f o own m.code) (with_level (taken l rest) m)) ≡ outcome (with_level (with_ahead (followed rest (plain (at line f o) done))) m)
+  by_front line f o same = placed_same (at line f o) (front_of m.limits l.site line f o own m.code) same
 
   does_same : (line f : ℕ) (o : Operation) → outcome (does l rest line f o m) ≡ outcome (with_level (with_ahead (followed rest (plain (at line f o) done))) m)
   does_same line f (operations.Constant into bits) = by_front line f (operations.Constant into bits) refl
@@ -198,6 +198,22 @@ module _ (m : Making) (l : Level) (rest : Nodes) where
   does_same line f operations.Exit = by_front line f operations.Exit refl
   does_same line f (operations.Fail class) = by_front line f (operations.Fail class) refl
   does_same line f (operations.Use a) = by_front line f (operations.Use a) refl
+  does_same line f (operations.Move into p i t n size class) = by_front line f (operations.Move into p i t n size class) refl
+  does_same line f (operations.Offset into p count) = by_front line f (operations.Offset into p count) refl
+  does_same line f (operations.Same p q) = by_front line f (operations.Same p q) refl
+  does_same line f (operations.Distance into p q n) = by_front line f (operations.Distance into p q n) refl
+  does_same line f (operations.Relate into op p q) = by_front line f (operations.Relate into op p q) refl
+  does_same line f (operations.Take block to p q count whole) = by_front line f (operations.Take block to p q count whole) refl
+  does_same line f (operations.Put block p from to count whole) = by_front line f (operations.Put block p from to count whole) refl
+  does_same line f (operations.Read block to p count) = by_front line f (operations.Read block to p count) refl
+  does_same line f (operations.Write p block from count first) = by_front line f (operations.Write p block from count first) refl
+  does_same line f (operations.Look into p subscript) = by_front line f (operations.Look into p subscript) refl
+  does_same line f (operations.Fill block count) = by_front line f (operations.Fill block count) refl
+  does_same line f (operations.Alloc into block size readonly heap) = by_front line f (operations.Alloc into block size readonly heap) refl
+  does_same line f (operations.Die p) = by_front line f (operations.Die p) refl
+  does_same line f (operations.Free p) = by_front line f (operations.Free p) refl
+  does_same line f (operations.MayFail into) = by_front line f (operations.MayFail into) refl
+  does_same line f (operations.Limit x y) = by_front line f (operations.Limit x y) refl
   does_same line f (operations.Call g first count into r) = calls_same line f g first count into r
   does_same line f (operations.Return v) =
       let skip = at line f (operations.Skip (jump m.code l.site.back)) in

@@ -1,5 +1,5 @@
 -- The flat code of structured code under the bounds of a command: loops are copied as often as they may go on, calls are replaced by the code of what they call, each with registers and blocks of its own. All jumps lead forward.
-use Rattle.std.specs.Prelude.{ℕ, zero, suc, ◌+◌, ◌-◌, ◌==◌, min, Bool, List, [], ◌∷◌, ◌++◌, length, drop, Option, Some, None, slice_get, slice_index, if◌then◌else◌}
+use Rattle.std.specs.Prelude.{ℕ, zero, suc, ◌+◌, ◌-◌, ◌==◌, min, Bool, true, false, List, [], ◌∷◌, ◌++◌, length, drop, Option, Some, None, slice_get, slice_index, if◌then◌else◌}
 use Rattle.words.specs.declared.check.Class.{Class}
 use Rattle.words.specs.declared.check.Class.TheVariants.{Unwind, Recursion}
 use Rattle.c_types.specs.declared.integers.IntegerType.{IntegerType}
@@ -10,7 +10,7 @@ use Rattle.goto_prog.specs.declared.code.Operation.{Operation}
 use Rattle.goto_prog.specs.declared.code.Operation.TheVariants as operations
 use Rattle.goto_prog.specs.declared.code.Instruction.{Instruction}
 use Rattle.goto_prog.specs.Nodes.{Nodes, done, plain, repeats, Routine}
-use Rattle.goto_prog.specs.Structured.{Bounded, tests, round_count, opened}
+use Rattle.goto_prog.specs.Structured.{Bounded, resolved, tests, round_count, opened}
 
 -- the types of the registers and the sizes of the blocks so far
 pub record Space : Type 0 where
@@ -63,6 +63,10 @@ renumbered_check r (checks.Negation t a) = checks.Negation t (r + a)
 renumbered_check r (checks.Count t u a) = checks.Count t u (r + a)
 renumbered_check r (checks.LeftShift t u a b) = checks.LeftShift t u (r + a) (r + b)
 renumbered_check r (checks.Returned a) = checks.Returned (r + a)
+renumbered_check r (checks.Within p i t n size class) = checks.Within (r + p) (r + i) t n (r + size) class
+renumbered_check r (checks.SameObject p q) = checks.SameObject (r + p) (r + q)
+renumbered_check r (checks.Inside p count whole) = checks.Inside (r + p) count whole
+renumbered_check r (checks.AtMost x y most) = checks.AtMost (r + x) (r + y) most
 
 -- an operation on the registers and blocks of an activation, which begin with these
 abbrev pub renumbered : (register block : ℕ) → Operation → Operation
@@ -84,7 +88,39 @@ renumbered r b (operations.Draw into bits) = operations.Draw (r + into) bits
 renumbered r b (operations.ReadObject block to k offset count) = operations.ReadObject (b + block) to k offset count
 renumbered r b (operations.WriteObject k offset block from count) = operations.WriteObject k offset (b + block) from count
 renumbered r b (operations.Use a) = operations.Use (r + a)
+renumbered r b (operations.Move into p i t n size class) = operations.Move (r + into) (r + p) (r + i) t n (r + size) class
+renumbered r b (operations.Offset into p count) = operations.Offset (r + into) (r + p) count
+renumbered r b (operations.Same p q) = operations.Same (r + p) (r + q)
+renumbered r b (operations.Distance into p q n) = operations.Distance (r + into) (r + p) (r + q) n
+renumbered r b (operations.Relate into op p q) = operations.Relate (r + into) op (r + p) (r + q)
+renumbered r b (operations.Take block to from p count whole) = operations.Take (b + block) to (b + from) (r + p) count whole
+renumbered r b (operations.Put block p from to count whole) = operations.Put (b + block) (r + p) (b + from) to count whole
+renumbered r b (operations.Read block to p count) = operations.Read (b + block) to (r + p) count
+renumbered r b (operations.Write p block from count first) = operations.Write (r + p) (b + block) from count first
+renumbered r b (operations.Look into p subscript) = operations.Look (r + into) (r + p) subscript
+renumbered r b (operations.Fill block count) = operations.Fill (b + block) (r + count)
+renumbered r b (operations.Alloc into block size readonly heap) = operations.Alloc (r + into) (b + block) (r + size) readonly heap
+renumbered r b (operations.Die p) = operations.Die (r + p)
+renumbered r b (operations.Free p) = operations.Free (r + p)
 renumbered r b o = o
+
+-- an operation on pointers, with objects that are read and written through them, made and ended
+abbrev pub on_pointers : Operation → Bool
+on_pointers (operations.Move into p i t n size class) = true
+on_pointers (operations.Offset into p count) = true
+on_pointers (operations.Same p q) = true
+on_pointers (operations.Distance into p q n) = true
+on_pointers (operations.Relate into op p q) = true
+on_pointers (operations.Take block to from p count whole) = true
+on_pointers (operations.Put block p from to count whole) = true
+on_pointers (operations.Read block to p count) = true
+on_pointers (operations.Write p block from count first) = true
+on_pointers (operations.Look into p subscript) = true
+on_pointers (operations.Fill block count) = true
+on_pointers (operations.Alloc into block size readonly heap) = true
+on_pointers (operations.Die p) = true
+on_pointers (operations.Free p) = true
+on_pointers _ = false
 
 -- passing a bound breaks a class, or blocks by the register that stays 0
 abbrev pub passed_code : Bool → Class → (line function : ℕ) → Instruction
@@ -122,7 +158,7 @@ module _ (b : Bounded) (inline : Inline) where
       let more = round_codes line f round k rest space in
       round (length more.code) more.code more.space
 
-  -- the code of an instruction in front of code, whose places and later ones have these marks
+  -- the code of an instruction in front of code, whose places and later ones have these marks; what asks for bounds is what they make of it
   abbrev pub instruction_code : Site → Instruction → (marks : List ℕ) → List Instruction → Space → Piece
   instruction_code site i marks rest space = by_operation i.operation
     where
@@ -131,7 +167,7 @@ module _ (b : Bounded) (inline : Inline) where
       by_operation (operations.SkipIfZero a n) = piece (at i.line i.function (operations.SkipIfZero (site.register + a) (jump rest (slice_index marks n))) ∷ rest) [] space
       by_operation (operations.Call g first count into r) = inline site i.line i.function g first count into r rest space
       by_operation (operations.Return v) = piece (hand_code site i.line i.function v ++ at i.line i.function (operations.Skip (jump rest site.back)) ∷ rest) [] space
-      by_operation o = piece (at i.line i.function (renumbered site.register site.block o) ∷ rest) [] space
+      by_operation o = piece (at i.line i.function (renumbered site.register site.block (resolved b.limits o)) ∷ rest) [] space
 
   -- nodes in front of code; `later` are the marks of the places behind them
   abbrev pub nodes_code : Site → Nodes → (later : List ℕ) → List Instruction → Space → Piece

@@ -7,7 +7,7 @@ use Rattle.goto_prog.specs.declared.code.Operation.TheVariants as operations
 use Rattle.goto_prog.specs.declared.code.Instruction.{Instruction}
 use Rattle.goto_prog.specs.Kinds.{with_kind}
 use Rattle.goto_prog.specs.Nodes.{Nodes, done, plain, repeats, Routine, nodes_of, view_procedure, view_procedures}
-use Rattle.goto_prog.specs.Structured.{Bounded, tests, round_count, opened}
+use Rattle.goto_prog.specs.Structured.{Bounded, resolved, tests, round_count, opened}
 use Rattle.goto_prog.specs.Walks.{total}
 use Rattle.goto_unwind.specs.declared.level.Handing as code_handing
 use Rattle.goto_unwind.specs.declared.level.Site as code_site
@@ -89,12 +89,12 @@ with_level l m = record m { levels = l ∷ m.levels }
 abbrev pub own_marks : Level → (marks : List ℕ) → List ℕ
 own_marks l marks = take (l.marked + l.outer) marks
 
--- the code of an instruction that calls no function, in front of code, where the places behind it have these marks
-abbrev pub front_of : Site → (line function : ℕ) → Operation → (marks : List ℕ) → List Instruction → List Instruction
-front_of site line f (operations.Skip n) marks rest = at line f (operations.Skip (jump rest (slice_index marks n))) ∷ []
-front_of site line f (operations.SkipIfZero a n) marks rest = at line f (operations.SkipIfZero (site.register + a) (jump rest (slice_index marks n))) ∷ []
-front_of site line f (operations.Return v) marks rest = hand_code site line f v ++ at line f (operations.Skip (jump rest site.back)) ∷ []
-front_of site line f o marks rest = at line f (renumbered site.register site.block o) ∷ []
+-- the code of an instruction that calls no function, in front of code, where the places behind it have these marks; what asks for bounds is what these make of it
+abbrev pub front_of : Limits → Site → (line function : ℕ) → Operation → (marks : List ℕ) → List Instruction → List Instruction
+front_of limits site line f (operations.Skip n) marks rest = at line f (operations.Skip (jump rest (slice_index marks n))) ∷ []
+front_of limits site line f (operations.SkipIfZero a n) marks rest = at line f (operations.SkipIfZero (site.register + a) (jump rest (slice_index marks n))) ∷ []
+front_of limits site line f (operations.Return v) marks rest = hand_code site line f v ++ at line f (operations.Skip (jump rest site.back)) ∷ []
+front_of limits site line f o marks rest = at line f (renumbered site.register site.block (resolved limits o)) ∷ []
 
 abbrev pub function_site : Site → Space → (into register back : ℕ) → Routine → Site
 function_site caller space into register back p = record {
@@ -134,7 +134,7 @@ calls l rest line f g first count into r m =
 
 abbrev pub does : Level → Nodes → (line function : ℕ) → Operation → Making → Making
 does l rest line f (operations.Call g first count into r) m = calls l rest line f g first count into r m
-does l rest line f o m = placed (front_of l.site line f o (own_marks l m.marks) m.code) (with_level (taken l rest) m)
+does l rest line f o m = placed (front_of m.limits l.site line f o (own_marks l m.marks) m.code) (with_level (taken l rest) m)
 
 -- a loop at a node of a level: its bound, in front of which its rounds are to come
 abbrev pub loops : Level → Nodes → (line function : ℕ) → (count : ℕ) → Nodes → Making → Making

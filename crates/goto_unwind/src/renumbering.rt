@@ -1,7 +1,7 @@
 //! Operations on the registers and blocks of an activation, by their numbers in unrolled code.
 
-ghost use Rattle.std.specs.Prelude.{◌≡◌, ◌+◌, IfOk};
-ghost use Rattle.goto_unwind.specs.Unrolled.{renumbered, renumbered_check};
+ghost use Rattle.std.specs.Prelude.{◌≡◌, ◌+◌, true, IfOk};
+ghost use Rattle.goto_unwind.specs.Unrolled.{renumbered, renumbered_check, on_pointers};
 
 use goto_prog::{Condition, Operation};
 use std::alloc::AllocError;
@@ -67,6 +67,39 @@ pub(crate) fn renumbered_check(first: usize, condition: Condition) -> Result<Con
         },
         Condition::Returned { returned } => Condition::Returned {
             returned: number(first, returned)?,
+        },
+        Condition::Within {
+            pointer,
+            index,
+            index_type,
+            step,
+            size,
+            class,
+        } => Condition::Within {
+            pointer: number(first, pointer)?,
+            index: number(first, index)?,
+            index_type,
+            step,
+            size: number(first, size)?,
+            class,
+        },
+        Condition::SameObject { left, right } => Condition::SameObject {
+            left: number(first, left)?,
+            right: number(first, right)?,
+        },
+        Condition::Inside {
+            offset,
+            count,
+            whole,
+        } => Condition::Inside {
+            offset: number(first, offset)?,
+            count,
+            whole,
+        },
+        Condition::AtMost { left, right, most } => Condition::AtMost {
+            left: number(first, left)?,
+            right: number(first, right)?,
+            most,
         },
     })
 }
@@ -223,6 +256,166 @@ pub(crate) fn renumbered(
         Operation::Use { returned } => Operation::Use {
             returned: number(register, returned)?,
         },
-        _ => operation,
+        Operation::Skip { .. } => operation,
+        Operation::SkipIfZero { .. } => operation,
+        Operation::Exit => operation,
+        Operation::Fail { .. } => operation,
+        Operation::Call { .. } => operation,
+        Operation::Return { .. } => operation,
+        Operation::MayFail { .. } => operation,
+        Operation::Limit { .. } => operation,
+        _ => renumbered_pointers(register, first_block, operation)?,
+    })
+}
+
+// The same of an operation on pointers.
+fn renumbered_pointers(
+    register: usize,
+    first_block: usize,
+    operation: Operation,
+) -> Result<Operation, AllocError>
+    requires { on_pointers operation ≡ true }
+    ensures { IfOk result (λ o. o ≡ renumbered register first_block operation) }
+{
+    Ok(match operation {
+        Operation::Move {
+            into,
+            pointer,
+            index,
+            index_type,
+            step,
+            size,
+            class,
+        } => Operation::Move {
+            into: number(register, into)?,
+            pointer: number(register, pointer)?,
+            index: number(register, index)?,
+            index_type,
+            step,
+            size: number(register, size)?,
+            class,
+        },
+        Operation::Offset {
+            into,
+            pointer,
+            count,
+        } => Operation::Offset {
+            into: number(register, into)?,
+            pointer: number(register, pointer)?,
+            count,
+        },
+        Operation::Same { left, right } => Operation::Same {
+            left: number(register, left)?,
+            right: number(register, right)?,
+        },
+        Operation::Distance {
+            into,
+            left,
+            right,
+            step,
+        } => Operation::Distance {
+            into: number(register, into)?,
+            left: number(register, left)?,
+            right: number(register, right)?,
+            step,
+        },
+        Operation::Relate {
+            into,
+            operator,
+            left,
+            right,
+        } => Operation::Relate {
+            into: number(register, into)?,
+            operator,
+            left: number(register, left)?,
+            right: number(register, right)?,
+        },
+        Operation::Take {
+            block,
+            at,
+            from,
+            offset,
+            count,
+            whole,
+        } => Operation::Take {
+            block: number(first_block, block)?,
+            at,
+            from: number(first_block, from)?,
+            offset: number(register, offset)?,
+            count,
+            whole,
+        },
+        Operation::Put {
+            block,
+            offset,
+            from,
+            at,
+            count,
+            whole,
+        } => Operation::Put {
+            block: number(first_block, block)?,
+            offset: number(register, offset)?,
+            from: number(first_block, from)?,
+            at,
+            count,
+            whole,
+        },
+        Operation::Read {
+            block,
+            at,
+            pointer,
+            count,
+        } => Operation::Read {
+            block: number(first_block, block)?,
+            at,
+            pointer: number(register, pointer)?,
+            count,
+        },
+        Operation::Write {
+            pointer,
+            block,
+            at,
+            count,
+            first,
+        } => Operation::Write {
+            pointer: number(register, pointer)?,
+            block: number(first_block, block)?,
+            at,
+            count,
+            first,
+        },
+        Operation::Look {
+            into,
+            pointer,
+            subscript,
+        } => Operation::Look {
+            into: number(register, into)?,
+            pointer: number(register, pointer)?,
+            subscript,
+        },
+        Operation::Fill { block, count } => Operation::Fill {
+            block: number(first_block, block)?,
+            count: number(register, count)?,
+        },
+        Operation::Alloc {
+            into,
+            block,
+            size,
+            readonly,
+            heap,
+        } => Operation::Alloc {
+            into: number(register, into)?,
+            block: number(first_block, block)?,
+            size: number(register, size)?,
+            readonly,
+            heap,
+        },
+        Operation::Die { pointer } => Operation::Die {
+            pointer: number(register, pointer)?,
+        },
+        Operation::Free { pointer } => Operation::Free {
+            pointer: number(register, pointer)?,
+        },
+        _ => unreachable!(),
     })
 }

@@ -15,7 +15,7 @@ use crate::loop_bounds::tests;
 use crate::renumbering::{number, renumbered};
 use c_types::IntegerType;
 use core_tree::Bounds;
-use goto_prog::{Code, Goto, Instruction, Kind, Node, Operation, Procedure};
+use goto_prog::{Code, Goto, Instruction, Kind, Node, Operation, Procedure, resolved};
 use std::alloc::{AllocError, Global};
 use words::Class;
 
@@ -399,7 +399,8 @@ impl<'a> Unroller<'a> {
                 self.put(level, rest, i, Operation::SkipIfZero { operand, count })
             }
             _ => {
-                let operation = renumbered(level.site.register, level.site.block, i.operation)?;
+                let operation = resolved(self.bounds, i.operation);
+                let operation = renumbered(level.site.register, level.site.block, operation)?;
                 self.put(level, rest, i, operation)
             }
         }

@@ -2,12 +2,15 @@
 
 ghost use Rattle.std.specs.Prelude.{◌≡◌, ◌+◌, ◌≤◌, length, true, None, IfOk, IfErr};
 ghost use Rattle.core_tree.specs.Trees.{view_core};
+ghost use Rattle.goto_prog.specs.Allocations.{code_allocations, allocations};
 ghost use Rattle.goto_prog.specs.Flat as flat;
 ghost use Rattle.goto_prog.specs.GotoThreads as structured;
 ghost use Rattle.goto_prog.specs.Nodes.{view_procedures};
 ghost use Rattle.goto_prog.specs.Same.{DoSame};
+ghost use Rattle.goto_prog.specs.Static.{is_static_code, are_static};
 ghost use Rattle.goto_unwind.specs.Counts.{passed, HasCause};
-ghost use Rattle.goto_unwind.specs.LocalRuns.{MakesFew};
+ghost use Rattle.goto_unwind.specs.LocalRuns.{allocates, count_on, MakesFew};
+ghost use Rattle.goto_unwind.specs.Places.{objects};
 ghost use Rattle.goto_unwind.specs.Program.{starts_none, unrolled};
 ghost use Rattle.goto_unwind.specs.declared.unrolling.UnwindError.TheVariants as errors;
 
@@ -82,8 +85,10 @@ pub(crate) fn unrolled(alloc: Global, goto: &Goto, bounds: &Bounds) -> Result<Un
 
 /// The code of a file without loops and calls, with the same first store, under these bounds; or the first
 /// quantity of the file that passes its limit. It does what the file's code does under the bounds, where no
-/// thread is started in a function. No local run of it creates more than 64 threads, or makes more than 8,192
-/// objects with those of the store, where that has no more than the file.
+/// thread is started in a function. It has no operations on pointers where the file's code has none. It has as many Allocs as the file's code, where loops and calls are copied as
+/// often as the bounds let them be done, and no local run of it makes more objects. No local run creates more than
+/// 64 threads, or makes more than 8,192 objects with those of the store, where these and the Allocs are no more than
+/// the objects that the file counts.
 pub fn unwind(
     alloc: Global,
     file: &Admitted,
@@ -94,7 +99,10 @@ pub fn unwind(
     ensures same { IfOk result (λ u. starts_none (view_procedures goto.now.functions) ≡ true → DoSame (flat.plain_thread u) (structured.plain_thread goto.now bounds.now)) }
     ensures store { IfOk result (λ u. u.store ≡ goto.now.store) }
     ensures within { IfOk result (λ u. passed (view_core file.now) bounds.now ≡ None) }
-    ensures few { IfOk result (λ u. length goto.now.store ≤ length (view_core file.now).objects + length (view_core file.now).literals → MakesFew (length u.store) (flat.plain_thread u)) }
+    ensures plain { IfOk result (λ u. are_static (view_procedures goto.now.functions) ≡ true → is_static_code (flat.main_code u).instructions ≡ true) }
+    ensures allocations { IfOk result (λ u. code_allocations (flat.main_code u).instructions ≡ allocations goto.now bounds.now) }
+    ensures makes { IfOk result (λ u. (answers : _) → count_on allocates (flat.plain_thread u).behaves answers ≤ allocations goto.now bounds.now) }
+    ensures few { IfOk result (λ u. length goto.now.store + allocations goto.now bounds.now ≤ length (view_core file.now).objects + length (view_core file.now).literals + objects (view_core file.now).functions bounds.now → MakesFew (length u.store) (flat.plain_thread u)) }
     ensures cause { IfErr result (HasCause (view_core file.now) bounds.now) }
 {
     let _procedures = goto.procedures();

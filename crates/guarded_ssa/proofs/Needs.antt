@@ -13,6 +13,9 @@ use Rattle.goto_prog.specs.declared.code.Condition.TheVariants as checks
 use Rattle.goto_prog.specs.declared.code.Operation.{Operation}
 use Rattle.goto_prog.specs.declared.code.Operation.TheVariants as operations
 use Rattle.goto_prog.specs.declared.code.Instruction.{Instruction}
+use Rattle.goto_prog.specs.Static.{is_static_check, is_static, is_static_code}
+use Rattle.goto_prog.proofs.Registers.{both}
+use Rattle.std.proofs.lemmas.Bool.{false≢true}
 use Rattle.goto_prog.specs.Meaning.{Memory, register, with_register, with_blocks, bytes_of, word_of, bytes_in, check_class, calculated, return_check}
 use Rattle.guarded_ssa.specs.inner.Answers.{answer_at}
 use Rattle.guarded_ssa.specs.Arrivals.{asked, stopped}
@@ -123,42 +126,49 @@ module _ (registers : ℕ) (until : List ℕ) where
           (λ p. e (block_of m.blocks b) ∙ ap g (ap (block_of m.blocks) p ∙ same ∙ ap (block_of n.blocks) (sym p))) same;
     }
 
-    same_check : (c : Condition) → AreRead registers until place (operations.Check c) → check_class c m ≡ check_class c n
-    same_check (checks.Divisor b) read = ap (λ x. unless (not (x == 0)) classes.Division) (agree.needed b read.0)
-    same_check (checks.Quotient t a b) read =
+    same_check : (c : Condition) → is_static_check c ≡ true → AreRead registers until place (operations.Check c) → check_class c m ≡ check_class c n
+    same_check (checks.Divisor b) static read = ap (λ x. unless (not (x == 0)) classes.Division) (agree.needed b read.0)
+    same_check (checks.Quotient t a b) static read =
         let p = agree.needed a read.0 in let q = agree.needed b read.1 in λ i. if q i == 0 then None else division_check t (p i) (q i)
-    same_check (checks.Range op t a b) read = let p = agree.needed a read.0 in let q = agree.needed b read.1 in λ i. arithmetic_check op t t (p i) (q i)
-    same_check (checks.Negation t a) read = ap (sign_check signs.Minus t) (agree.needed a read.0)
-    same_check (checks.Count t u count) read = ap (count_check t u) (agree.needed count read.0)
-    same_check (checks.LeftShift t u a count) read = let p = agree.needed a read.0 in let q = agree.needed count read.1 in λ i. left_shift_check t u (p i) (q i)
-    same_check (checks.Returned a) read = ap return_check (agree.needed a read.0)
+    same_check (checks.Range op t a b) static read = let p = agree.needed a read.0 in let q = agree.needed b read.1 in λ i. arithmetic_check op t t (p i) (q i)
+    same_check (checks.Negation t a) static read = ap (sign_check signs.Minus t) (agree.needed a read.0)
+    same_check (checks.Count t u count) static read = ap (count_check t u) (agree.needed count read.0)
+    same_check (checks.LeftShift t u a count) static read = let p = agree.needed a read.0 in let q = agree.needed count read.1 in λ i. left_shift_check t u (p i) (q i)
+    same_check (checks.Returned a) static read = ap return_check (agree.needed a read.0)
+    same_check _ static read = absurd (false≢true static)
 
-    agree_calculated : (o : Operation) → AreRead registers until place o → Agree registers until (suc place) (calculated o m) (calculated o n)
-    agree_calculated (operations.Constant r bits) read = agree_set r bits bits refl
-    agree_calculated (operations.Copy r a) read = agree_set r _ _ (agree.needed a read.0)
-    agree_calculated (operations.Load r t b offset) read = agree_set r _ _ (ap (number_at t offset) (agree.blocks b read.2))
-    agree_calculated (operations.Store b offset count a) read =
+    agree_calculated : (o : Operation) → is_static o ≡ true → AreRead registers until place o → Agree registers until (suc place) (calculated o m) (calculated o n)
+    agree_calculated (operations.Constant r bits) static read = agree_set r bits bits refl
+    agree_calculated (operations.Copy r a) static read = agree_set r _ _ (agree.needed a read.0)
+    agree_calculated (operations.Load r t b offset) static read = agree_set r _ _ (ap (number_at t offset) (agree.blocks b read.2))
+    agree_calculated (operations.Store b offset count a) static read =
         let p = agree.needed a read.0 in agree_block b (put_at offset (low_bytes count (register m a))) (put_at offset (low_bytes count (register n a))) (λ bs i. put_at offset (low_bytes count (p i)) bs)
-    agree_calculated (operations.Clear b size) read = agree_block b (λ bs. zeros size) (λ bs. zeros size) (λ bs. refl)
-    agree_calculated (operations.CopyBytes into to from offset count) read =
+    agree_calculated (operations.Clear b size) static read = agree_block b (λ bs. zeros size) (λ bs. zeros size) (λ bs. refl)
+    agree_calculated (operations.CopyBytes into to from offset count) static read =
         let p = agree.blocks from read.2 in
         agree_block into (put_at to (bytes_of m.blocks from offset count)) (put_at to (bytes_of n.blocks from offset count)) (λ bs i. put_at to (take count (drop offset (p i))) bs)
-    agree_calculated (operations.Convert r from to a) read = agree_set r _ _ (ap (converted from to) (agree.needed a read.0))
-    agree_calculated (operations.Sign r op t a) read = agree_set r _ _ (ap (sign_value op t) (agree.needed a read.0))
-    agree_calculated (operations.Arithmetic r op t u a b) read =
+    agree_calculated (operations.Convert r from to a) static read = agree_set r _ _ (ap (converted from to) (agree.needed a read.0))
+    agree_calculated (operations.Sign r op t a) static read = agree_set r _ _ (ap (sign_value op t) (agree.needed a read.0))
+    agree_calculated (operations.Arithmetic r op t u a b) static read =
         let p = agree.needed a read.0 in let q = agree.needed b read.1 in agree_set r _ _ (λ i. arithmetic_value op t (p i) (q i))
-    agree_calculated (operations.Compare r op t a b) read =
+    agree_calculated (operations.Compare r op t a b) static read =
         let p = agree.needed a read.0 in let q = agree.needed b read.1 in agree_set r _ _ (λ i. truth_bits (compared op t (p i) (q i)))
-    agree_calculated (operations.IsZero r a) read = agree_set r _ _ (ap (λ x. truth_bits (x == 0)) (agree.needed a read.0))
-    agree_calculated _ read = agree_later place m n agree
+    agree_calculated (operations.IsZero r a) static read = agree_set r _ _ (ap (λ x. truth_bits (x == 0)) (agree.needed a read.0))
+    agree_calculated (operations.Move r p i t k size class) static read = absurd (false≢true static)
+    agree_calculated (operations.Offset r p count) static read = absurd (false≢true static)
+    agree_calculated (operations.Distance r p q k) static read = absurd (false≢true static)
+    agree_calculated (operations.Relate r op p q) static read = absurd (false≢true static)
+    agree_calculated (operations.Take b to from p count whole) static read = absurd (false≢true static)
+    agree_calculated (operations.Put b p from to count whole) static read = absurd (false≢true static)
+    agree_calculated _ static read = agree_later place m n agree
 
     module _ (v : ℕ → ℕ) (apart line f : ℕ) where
-      same_told : (o : Operation) → AreRead registers until place o → tells v apart place line f o m ≡ tells v apart place line f o n
-      same_told (operations.Check c) read = ap (λ x. breaks x line f) (same_check c read)
-      same_told (operations.Assert a) read = ap (λ x. if x == 0 then stopped (Broken classes.Assertion line f) ∷ [] else []) (agree.needed a read.0)
-      same_told (operations.Assume a) read = ap (λ x. if x == 0 then stopped Blocked ∷ [] else []) (agree.needed a read.0)
-      same_told (operations.WriteObject k offset b from count) read = ap (λ (bs : List ℕ). asked (actions.Write (pointer_to k offset) (take count (drop from bs)) false) line f answers.Done ∷ []) (agree.blocks b read.2)
-      same_told _ read = refl
+      same_told : (o : Operation) → is_static o ≡ true → AreRead registers until place o → tells v apart place line f o m ≡ tells v apart place line f o n
+      same_told (operations.Check c) static read = ap (λ x. breaks x line f) (same_check c static read)
+      same_told (operations.Assert a) static read = ap (λ x. if x == 0 then stopped (Broken classes.Assertion line f) ∷ [] else []) (agree.needed a read.0)
+      same_told (operations.Assume a) static read = ap (λ x. if x == 0 then stopped Blocked ∷ [] else []) (agree.needed a read.0)
+      same_told (operations.WriteObject k offset b from count) static read = ap (λ (bs : List ℕ). asked (actions.Write (pointer_to k offset) (take count (drop from bs)) false) line f answers.Done ∷ []) (agree.blocks b read.2)
+      same_told _ static read = refl
 
   alike_updated : (place : ℕ) (w x : Option Memory) (f : Memory → Memory) → ((m n : Memory) → Agree registers until place m n → Agree registers until (suc place) (f m) (f n)) → Alike registers until place w x → Alike registers until (suc place) (updated f w) (updated f x)
   alike_updated place None None f same h = tt
@@ -179,50 +189,51 @@ module _ (registers : ℕ) (until : List ℕ) where
   alike_kept place (Some m) (Some n) test same h = kept_by place (test m) (test n) m n (same m n h) (agree_later place m n h)
 
   module _ (v : ℕ → ℕ) (apart place : ℕ) (w x : Option Memory) (ws xs : Arrivals) (h : Alike registers until place w x) (k : AllAlike registers until (suc place) ws xs) where
-    goes_on : (o : Operation) → AreRead registers until place o → AllAlike registers until (suc place) (arrived 0 (updated (calculated o) w) ws) (arrived 0 (updated (calculated o) x) xs)
-    goes_on o read = arrived_alike (suc place) 0 _ _ ws xs (alike_updated place w x (calculated o) (λ m n agree. agree_calculated place m n agree o read) h) k
+    goes_on : (o : Operation) → is_static o ≡ true → AreRead registers until place o → AllAlike registers until (suc place) (arrived 0 (updated (calculated o) w) ws) (arrived 0 (updated (calculated o) x) xs)
+    goes_on o static read = arrived_alike (suc place) 0 _ _ ws xs (alike_updated place w x (calculated o) (λ m n agree. agree_calculated place m n agree o static read) h) k
 
-    leaves_alike : (o : Operation) → AreRead registers until place o → AllAlike registers until (suc place) (leaves v apart place o w ws) (leaves v apart place o x xs)
-    leaves_alike (operations.Skip n) read = arrived_alike (suc place) n w x ws xs (alike_later place w x h) k
-    leaves_alike (operations.SkipIfZero a n) read =
+    leaves_alike : (o : Operation) → is_static o ≡ true → AreRead registers until place o → AllAlike registers until (suc place) (leaves v apart place o w ws) (leaves v apart place o x xs)
+    leaves_alike (operations.Skip n) static read = arrived_alike (suc place) n w x ws xs (alike_later place w x h) k
+    leaves_alike (operations.SkipIfZero a n) static read =
         let same : (m m' : Memory) → Agree registers until place m m' → register m a ≡ register m' a = λ m m' agree. agree.needed a read.0 in
         arrived_alike (suc place) n (kept (λ m. register m a == 0) w) (kept (λ m. register m a == 0) x) _ _ (alike_kept place w x (λ m. register m a == 0) (λ m m' agree. ap (λ y. y == 0) (same m m' agree)) h)
         (arrived_alike (suc place) 0 (kept (λ m. not (register m a == 0)) w) (kept (λ m. not (register m a == 0)) x) ws xs (alike_kept place w x (λ m. not (register m a == 0)) (λ m m' agree. ap (λ y. not (y == 0)) (same m m' agree)) h) k)
-    leaves_alike (operations.Draw r bits) read =
+    leaves_alike (operations.Draw r bits) static read =
         let a = word_of (answer_at v apart place (actions.Draw bits)) in
         arrived_alike (suc place) 0 _ _ ws xs (alike_updated place w x (λ m. with_register m r a) (λ m n agree. agree_set place m n agree r a a refl) h) k
-    leaves_alike (operations.ReadObject b to object offset count) read =
+    leaves_alike (operations.ReadObject b to object offset count) static read =
         let new = bytes_in (answer_at v apart place (actions.Read (pointer_to object offset) count)) in
         arrived_alike (suc place) 0 _ _ ws xs (alike_updated place w x (λ m. with_blocks m (put_bytes m.blocks b to new)) (λ m n agree. agree_block place m n agree b (put_at to new) (put_at to new) (λ bs. refl)) h) k
-    leaves_alike (operations.WriteObject object offset b from count) read = goes_on (operations.WriteObject object offset b from count) read
-    leaves_alike operations.Exit read = k
-    leaves_alike (operations.Constant r bits) read = goes_on (operations.Constant r bits) read
-    leaves_alike (operations.Copy r a) read = goes_on (operations.Copy r a) read
-    leaves_alike (operations.Load r t b offset) read = goes_on (operations.Load r t b offset) read
-    leaves_alike (operations.Store b offset count a) read = goes_on (operations.Store b offset count a) read
-    leaves_alike (operations.Clear b size) read = goes_on (operations.Clear b size) read
-    leaves_alike (operations.CopyBytes into to from offset count) read = goes_on (operations.CopyBytes into to from offset count) read
-    leaves_alike (operations.Convert r from to a) read = goes_on (operations.Convert r from to a) read
-    leaves_alike (operations.Sign r op t a) read = goes_on (operations.Sign r op t a) read
-    leaves_alike (operations.Arithmetic r op t u a b) read = goes_on (operations.Arithmetic r op t u a b) read
-    leaves_alike (operations.Compare r op t a b) read = goes_on (operations.Compare r op t a b) read
-    leaves_alike (operations.IsZero r a) read = goes_on (operations.IsZero r a) read
-    leaves_alike (operations.Check c) read = goes_on (operations.Check c) read
-    leaves_alike (operations.Assert a) read = goes_on (operations.Assert a) read
-    leaves_alike (operations.Assume a) read = goes_on (operations.Assume a) read
-    leaves_alike (operations.Fail class) read = goes_on (operations.Fail class) read
-    leaves_alike (operations.Use a) read = goes_on (operations.Use a) read
-    leaves_alike (operations.Call g first count into r) read = goes_on (operations.Call g first count into r) read
-    leaves_alike (operations.Return v) read = goes_on (operations.Return v) read
+    leaves_alike (operations.WriteObject object offset b from count) static read = goes_on (operations.WriteObject object offset b from count) static read
+    leaves_alike operations.Exit static read = k
+    leaves_alike (operations.Constant r bits) static read = goes_on (operations.Constant r bits) static read
+    leaves_alike (operations.Copy r a) static read = goes_on (operations.Copy r a) static read
+    leaves_alike (operations.Load r t b offset) static read = goes_on (operations.Load r t b offset) static read
+    leaves_alike (operations.Store b offset count a) static read = goes_on (operations.Store b offset count a) static read
+    leaves_alike (operations.Clear b size) static read = goes_on (operations.Clear b size) static read
+    leaves_alike (operations.CopyBytes into to from offset count) static read = goes_on (operations.CopyBytes into to from offset count) static read
+    leaves_alike (operations.Convert r from to a) static read = goes_on (operations.Convert r from to a) static read
+    leaves_alike (operations.Sign r op t a) static read = goes_on (operations.Sign r op t a) static read
+    leaves_alike (operations.Arithmetic r op t u a b) static read = goes_on (operations.Arithmetic r op t u a b) static read
+    leaves_alike (operations.Compare r op t a b) static read = goes_on (operations.Compare r op t a b) static read
+    leaves_alike (operations.IsZero r a) static read = goes_on (operations.IsZero r a) static read
+    leaves_alike (operations.Check c) static read = goes_on (operations.Check c) static read
+    leaves_alike (operations.Assert a) static read = goes_on (operations.Assert a) static read
+    leaves_alike (operations.Assume a) static read = goes_on (operations.Assume a) static read
+    leaves_alike (operations.Fail class) static read = goes_on (operations.Fail class) static read
+    leaves_alike (operations.Use a) static read = goes_on (operations.Use a) static read
+    leaves_alike (operations.Call g first count into r) static read = goes_on (operations.Call g first count into r) static read
+    leaves_alike (operations.Return v) static read = goes_on (operations.Return v) static read
+    leaves_alike _ static read = absurd (false≢true static)
 
   -- ---- code
 
   module _ (v : ℕ → ℕ) (apart : ℕ) where
-    same_on : (place line f : ℕ) (o : Operation) (w x : Option Memory) → AreRead registers until place o → Alike registers until place w x → on w (tells v apart place line f o) ≡ on x (tells v apart place line f o)
-    same_on place line f o None None read h = refl
-    same_on place line f o None (Some n) read h = absurd h
-    same_on place line f o (Some m) None read h = absurd h
-    same_on place line f o (Some m) (Some n) read h = same_told place m n h v apart line f o read
+    same_on : (place line f : ℕ) (o : Operation) (w x : Option Memory) → is_static o ≡ true → AreRead registers until place o → Alike registers until place w x → on w (tells v apart place line f o) ≡ on x (tells v apart place line f o)
+    same_on place line f o None None static read h = refl
+    same_on place line f o None (Some n) static read h = absurd h
+    same_on place line f o (Some m) None static read h = absurd h
+    same_on place line f o (Some m) (Some n) static read h = same_told place m n h v apart line f o static read
 
     first_alike : (place : ℕ) (ws xs : Arrivals) → AllAlike registers until place ws xs → Alike registers until place (first_arrival v apart ws) (first_arrival v apart xs)
     first_alike place [] [] h = tt
@@ -236,16 +247,17 @@ module _ (registers : ℕ) (until : List ℕ) where
     later_alike place (w ∷ ws) [] h = absurd h
     later_alike place (w ∷ ws) (x ∷ xs) h = h.1
 
-    pub told_alike : (place : ℕ) (code : List Instruction) (ws xs : Arrivals) → Covers registers until place code → AllAlike registers until place ws xs → told v apart place code ws ≡ told v apart place code xs
-    told_alike place [] ws xs covers h = refl
-    told_alike place (i ∷ code) ws xs covers h =
-        let p = same_on place i.line i.function i.operation (first_arrival v apart ws) (first_arrival v apart xs) covers.0 (first_alike place ws xs h) in
-        let q = told_alike (suc place) code (leaves v apart place i.operation (first_arrival v apart ws) (later_arrivals v apart ws)) (leaves v apart place i.operation (first_arrival v apart xs) (later_arrivals v apart xs)) covers.1
-        (leaves_alike v apart place (first_arrival v apart ws) (first_arrival v apart xs) (later_arrivals v apart ws) (later_arrivals v apart xs) (first_alike place ws xs h) (later_alike place ws xs h) i.operation covers.0) in
+    pub told_alike : (place : ℕ) (code : List Instruction) (ws xs : Arrivals) → is_static_code code ≡ true → Covers registers until place code → AllAlike registers until place ws xs → told v apart place code ws ≡ told v apart place code xs
+    told_alike place [] ws xs static covers h = refl
+    told_alike place (i ∷ code) ws xs static covers h =
+        let all = both (is_static i.operation) (is_static_code code) static in
+        let p = same_on place i.line i.function i.operation (first_arrival v apart ws) (first_arrival v apart xs) all.0 covers.0 (first_alike place ws xs h) in
+        let q = told_alike (suc place) code (leaves v apart place i.operation (first_arrival v apart ws) (later_arrivals v apart ws)) (leaves v apart place i.operation (first_arrival v apart xs) (later_arrivals v apart xs)) all.1 covers.1
+        (leaves_alike v apart place (first_arrival v apart ws) (first_arrival v apart xs) (later_arrivals v apart ws) (later_arrivals v apart xs) (first_alike place ws xs h) (later_alike place ws xs h) i.operation all.0 covers.0) in
         λ k. p k ++ q k
 
     -- the same, one instruction on
-    pub told_step : (place : ℕ) (i : Instruction) (code : List Instruction) (w : Option Memory) (ws xs : Arrivals) → Covers registers until (suc place) code → AllAlike registers until (suc place) xs (leaves v apart place i.operation w ws)
+    pub told_step : (place : ℕ) (i : Instruction) (code : List Instruction) (w : Option Memory) (ws xs : Arrivals) → is_static_code code ≡ true → Covers registers until (suc place) code → AllAlike registers until (suc place) xs (leaves v apart place i.operation w ws)
         → on w (tells v apart place i.line i.function i.operation) ++ told v apart (suc place) code xs ≡ told v apart place (i ∷ code) (w ∷ ws)
-    told_step place i code w ws xs covers h =
-        ap (λ ys. on w (tells v apart place i.line i.function i.operation) ++ ys) (told_alike (suc place) code xs (leaves v apart place i.operation w ws) covers h)
+    told_step place i code w ws xs static covers h =
+        ap (λ ys. on w (tells v apart place i.line i.function i.operation) ++ ys) (told_alike (suc place) code xs (leaves v apart place i.operation w ws) static covers h)

@@ -40,6 +40,7 @@ use Rattle.cell_trees.proofs.Kept.{keeps_itself}
 use Rattle.goto_prog.specs.CodeThread.{Listing}
 use Rattle.goto_prog.specs.Running.{is_calculation}
 use Rattle.goto_prog.specs.UnrolledCode.{is_flat}
+use Rattle.goto_prog.specs.Static.{is_static}
 use Rattle.guarded_ssa.specs.declared.forms.Event.{Event}
 use Rattle.guarded_ssa.specs.declared.forms.EventKind.TheVariants.{Draw, Read, Write, Exit, Check, Assume}
 use Rattle.guarded_ssa.specs.declared.slots.Slot.{Slot}
@@ -148,6 +149,13 @@ leads_on (operations.Arithmetic r op t u a b) h v apart place w ws = refl
 leads_on (operations.Compare r op t a b) h v apart place w ws = refl
 leads_on (operations.IsZero r a) h v apart place w ws = refl
 leads_on (operations.Use a) h v apart place w ws = refl
+leads_on (operations.Move r p i t k size class) h v apart place w ws = refl
+leads_on (operations.Offset r p count) h v apart place w ws = refl
+leads_on (operations.Same p q) h v apart place w ws = refl
+leads_on (operations.Distance r p q k) h v apart place w ws = refl
+leads_on (operations.Relate r op p q) h v apart place w ws = refl
+leads_on (operations.Take b to from p count whole) h v apart place w ws = refl
+leads_on (operations.Put b p from to count whole) h v apart place w ws = refl
 leads_on _ h v apart place w ws = absurd (false≢true h)
 
 silent : (o : Operation) → is_calculation o ≡ true → (v : ℕ → ℕ) (apart place line f : ℕ) (m : Memory) → tells v apart place line f o m ≡ []
@@ -163,6 +171,13 @@ silent (operations.Arithmetic r op t u a b) h v apart place line f m = refl
 silent (operations.Compare r op t a b) h v apart place line f m = refl
 silent (operations.IsZero r a) h v apart place line f m = refl
 silent (operations.Use a) h v apart place line f m = refl
+silent (operations.Move r p i t k size class) h v apart place line f m = refl
+silent (operations.Offset r p count) h v apart place line f m = refl
+silent (operations.Same p q) h v apart place line f m = refl
+silent (operations.Distance r p q k) h v apart place line f m = refl
+silent (operations.Relate r op p q) h v apart place line f m = refl
+silent (operations.Take b to from p count whole) h v apart place line f m = refl
+silent (operations.Put b p from to count whole) h v apart place line f m = refl
 silent _ h v apart place line f m = absurd (false≢true h)
 
 nothing_on : (w : Option Memory) (tell : Memory → List Seen) → ((m : Memory) → tell m ≡ []) → on w tell ≡ []
@@ -335,6 +350,10 @@ one_class registers (checks.Negation t a) m h = unless_class _ classes.Overflow
 one_class registers (checks.Count t u count) m h = unless_class _ classes.Shift
 one_class registers (checks.LeftShift t u a count) m h = unless_class _ classes.Shift
 one_class registers (checks.Returned a) m h = unless_class _ classes.Return
+one_class registers (checks.Within p i t n size class) m h = unless_class _ class
+one_class registers (checks.SameObject p q) m h = unless_class _ classes.Pointer
+one_class registers (checks.Inside p count whole) m h = unless_class _ classes.Bounds
+one_class registers (checks.AtMost a b most) m h = unless_class _ classes.MallocLimit
 
 breaks_by : (c : Option Class) (k : Class) (b : Bool) (line f : ℕ) → c ≡ (if is_some c then Some k else None) → b ≡ is_some c → (if b then stopped (Broken k line f) ∷ [] else []) ≡ breaks c line f
 breaks_by None k b line f e h = if_false b (stopped (Broken k line f) ∷ []) [] h
@@ -407,14 +426,16 @@ module _ (until : List ℕ) (code : Listing) (place line f : ℕ) (d e : List No
       (λ v. twice (holds (value v d s.guard)) (held v d p.trees code s) (stopped (Broken class line f) ∷ [])) stays_same tells_it
 
   -- unrolled code doesn't have them
-  pub passes_stopped : (o : Operation) → is_flat o ≡ false → Tells until code place (record { guard = s.guard; line = line; function = f; kind = Assume s.guard }) s d e p q → Passes until code place line f o s d e p q
-  passes_stopped (operations.Call g first count into r) calls tells_it =
+  pub passes_stopped : (o : Operation) → is_flat o ≡ false → is_static o ≡ true → Tells until code place (record { guard = s.guard; line = line; function = f; kind = Assume s.guard }) s d e p q → Passes until code place line f o s d e p q
+  passes_stopped (operations.Call g first count into r) calls static tells_it =
       passes_by_event until code place line f (operations.Call g first count into r) d d e s s p p q (extends_itself d) within (keeps_itself p.trees) refl refl (record { guard = s.guard; line = line; function = f; kind = Assume s.guard })
       (λ v. twice (holds (value v d s.guard)) (held v d p.trees code s) (stopped Blocked ∷ [])) stays_same tells_it
-  passes_stopped (operations.Return x) calls tells_it =
+  passes_stopped (operations.Return x) calls static tells_it =
       passes_by_event until code place line f (operations.Return x) d d e s s p p q (extends_itself d) within (keeps_itself p.trees) refl refl (record { guard = s.guard; line = line; function = f; kind = Assume s.guard })
       (λ v. twice (holds (value v d s.guard)) (held v d p.trees code s) (stopped Blocked ∷ [])) stays_same tells_it
-  passes_stopped _ calls tells_it = absurd (false≢true (sym calls))
+  passes_stopped (operations.MayFail r) calls static tells_it = absurd (false≢true static)
+  passes_stopped (operations.Limit a b) calls static tells_it = absurd (false≢true static)
+  passes_stopped _ calls static tells_it = absurd (false≢true (sym calls))
 
 -- ---- draws and exits
 

@@ -12,6 +12,9 @@ use Rattle.actions.specs.declared.action.Next.TheVariants.{Ended, Blocked, Broke
 use Rattle.goto_prog.specs.declared.code.Operation.{Operation}
 use Rattle.goto_prog.specs.declared.code.Operation.TheVariants as operations
 use Rattle.goto_prog.specs.declared.code.Instruction.{Instruction}
+use Rattle.goto_prog.specs.Static.{is_static, is_static_code}
+use Rattle.goto_prog.proofs.Registers.{both}
+use Rattle.std.proofs.lemmas.Bool.{false≢true}
 use Rattle.goto_prog.specs.Meaning.{Memory, register, with_register, with_blocks, bytes_of, word_of, bytes_in, check_class, calculated, or_else, at, operates, places}
 use Rattle.guarded_ssa.specs.Runs.{Run, stops, asks}
 use Rattle.guarded_ssa.specs.inner.Answers.{answer_at, running}
@@ -115,6 +118,7 @@ module _ (v : ℕ → ℕ) (apart : ℕ) where
   leaves_none place (operations.Use a) ws = arrived_none 0 ws
   leaves_none place (operations.Call g first count into r) ws = arrived_none 0 ws
   leaves_none place (operations.Return x) ws = arrived_none 0 ws
+  leaves_none place _ ws = arrived_none 0 ws
 
   -- ---- one step from a place that is reached
 
@@ -144,42 +148,45 @@ module _ (v : ℕ → ℕ) (apart : ℕ) where
     ends_or true next = refl
     ends_or false next = goes 0 m
 
-    step : (line f from : ℕ) (o : Operation) → read (tells v apart from line f o m ++ told v apart place code (leaves v apart from o (Some m) ws)) end ≡ operates (running v apart) false from line f o (places (running v apart) false place code) m
-    step line f from (operations.Constant r bits) = goes 0 (calculated (operations.Constant r bits) m)
-    step line f from (operations.Copy r a) = goes 0 (calculated (operations.Copy r a) m)
-    step line f from (operations.Load r t b offset) = goes 0 (calculated (operations.Load r t b offset) m)
-    step line f from (operations.Store b offset count a) = goes 0 (calculated (operations.Store b offset count a) m)
-    step line f from (operations.Clear b size) = goes 0 (calculated (operations.Clear b size) m)
-    step line f from (operations.CopyBytes into to b offset count) = goes 0 (calculated (operations.CopyBytes into to b offset count) m)
-    step line f from (operations.Convert r t u a) = goes 0 (calculated (operations.Convert r t u a) m)
-    step line f from (operations.Sign r op t a) = goes 0 (calculated (operations.Sign r op t a) m)
-    step line f from (operations.Arithmetic r op t u a b) = goes 0 (calculated (operations.Arithmetic r op t u a b) m)
-    step line f from (operations.Compare r op t a b) = goes 0 (calculated (operations.Compare r op t a b) m)
-    step line f from (operations.IsZero r a) = goes 0 (calculated (operations.IsZero r a) m)
-    step line f from (operations.Skip n) = goes n m
-    step line f from (operations.SkipIfZero a n) = jumps (register m a == 0) n
-    step line f from (operations.Check c) = breaks_or (check_class c m) line f
-    step line f from (operations.Assert a) = ends_or (register m a == 0) (Broken classes.Assertion line f)
-    step line f from (operations.Assume a) = ends_or (register m a == 0) Blocked
-    step line f from (operations.Draw r bits) =
+    step : (line f from : ℕ) (o : Operation) → is_static o ≡ true → read (tells v apart from line f o m ++ told v apart place code (leaves v apart from o (Some m) ws)) end ≡ operates (running v apart) false from line f o (places (running v apart) false place code) m
+    step line f from (operations.Constant r bits) static = goes 0 (calculated (operations.Constant r bits) m)
+    step line f from (operations.Copy r a) static = goes 0 (calculated (operations.Copy r a) m)
+    step line f from (operations.Load r t b offset) static = goes 0 (calculated (operations.Load r t b offset) m)
+    step line f from (operations.Store b offset count a) static = goes 0 (calculated (operations.Store b offset count a) m)
+    step line f from (operations.Clear b size) static = goes 0 (calculated (operations.Clear b size) m)
+    step line f from (operations.CopyBytes into to b offset count) static = goes 0 (calculated (operations.CopyBytes into to b offset count) m)
+    step line f from (operations.Convert r t u a) static = goes 0 (calculated (operations.Convert r t u a) m)
+    step line f from (operations.Sign r op t a) static = goes 0 (calculated (operations.Sign r op t a) m)
+    step line f from (operations.Arithmetic r op t u a b) static = goes 0 (calculated (operations.Arithmetic r op t u a b) m)
+    step line f from (operations.Compare r op t a b) static = goes 0 (calculated (operations.Compare r op t a b) m)
+    step line f from (operations.IsZero r a) static = goes 0 (calculated (operations.IsZero r a) m)
+    step line f from (operations.Skip n) static = goes n m
+    step line f from (operations.SkipIfZero a n) static = jumps (register m a == 0) n
+    step line f from (operations.Check c) static = breaks_or (check_class c m) line f
+    step line f from (operations.Assert a) static = ends_or (register m a == 0) (Broken classes.Assertion line f)
+    step line f from (operations.Assume a) static = ends_or (register m a == 0) Blocked
+    step line f from (operations.Draw r bits) static =
         ap (asks (actions.Draw bits) line f (answer_at v apart from (actions.Draw bits))) (goes 0 (with_register m r (word_of (answer_at v apart from (actions.Draw bits)))))
-    step line f from (operations.ReadObject b to k offset count) =
+    step line f from (operations.ReadObject b to k offset count) static =
         let action = actions.Read (pointer_to k offset) count in
         let answer = answer_at v apart from action in
         ap (asks action line f answer) (goes 0 (with_blocks m (put_bytes m.blocks b to (bytes_in answer))))
-    step line f from (operations.WriteObject k offset b at count) = ap (asks (actions.Write (pointer_to k offset) (bytes_of m.blocks b at count) false) line f answers.Done) (goes 0 m)
-    step line f from operations.Exit = refl
-    step line f from (operations.Fail class) = refl
-    step line f from (operations.Use a) = goes 0 m
-    step line f from (operations.Call g first count into r) = refl
-    step line f from (operations.Return x) = refl
+    step line f from (operations.WriteObject k offset b at count) static = ap (asks (actions.Write (pointer_to k offset) (bytes_of m.blocks b at count) false) line f answers.Done) (goes 0 m)
+    step line f from operations.Exit static = refl
+    step line f from (operations.Fail class) static = refl
+    step line f from (operations.Use a) static = goes 0 m
+    step line f from (operations.Call g first count into r) static = refl
+    step line f from (operations.Return x) static = refl
+    step line f from _ static = absurd (false≢true static)
 
   -- ---- all of it
 
-  pub tells_all : (code : List Instruction) (place : ℕ) → Tells place code
-  tells_all [] place ws single room = sym (remaining_none ws)
-  tells_all (i ∷ code) place [] single room = absurd (omega (arith, room))
-  tells_all (i ∷ code) place (None ∷ ws) single room =
-      ap (λ xs. read (told v apart (suc place) code xs) end) (leaves_none place i.operation ws) ∙ tells_all code (suc place) ws single (omega (arith, room))
-  tells_all (i ∷ code) place (Some m ∷ ws) single room =
-      step (suc place) code (tells_all code (suc place)) m ws single (omega (arith, room)) i.line i.function place i.operation
+  pub tells_all : (code : List Instruction) (place : ℕ) → is_static_code code ≡ true → Tells place code
+  tells_all [] place static ws single room = sym (remaining_none ws)
+  tells_all (i ∷ code) place static [] single room = absurd (omega (arith, room))
+  tells_all (i ∷ code) place static (None ∷ ws) single room =
+      let all = both (is_static i.operation) (is_static_code code) static in
+      ap (λ xs. read (told v apart (suc place) code xs) end) (leaves_none place i.operation ws) ∙ tells_all code (suc place) all.1 ws single (omega (arith, room))
+  tells_all (i ∷ code) place static (Some m ∷ ws) single room =
+      let all = both (is_static i.operation) (is_static_code code) static in
+      step (suc place) code (tells_all code (suc place) all.1) m ws single (omega (arith, room)) i.line i.function place i.operation all.0

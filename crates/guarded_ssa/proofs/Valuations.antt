@@ -20,6 +20,7 @@ use Rattle.actions.specs.LocalRun.{Exchange, IsLocalRun}
 use Rattle.c_values.specs.Variables.{word_count}
 use Rattle.word_dag.specs.declared.nodes.Node.{Node}
 use Rattle.goto_prog.specs.declared.code.Instruction.{Instruction}
+use Rattle.goto_prog.specs.Static.{is_static_code}
 use Rattle.goto_prog.specs.Meaning.{Memory, Reading, does}
 use Rattle.goto_prog.specs.Threads.{behaving, ask, final}
 use Rattle.guarded_ssa.specs.declared.forms.Event.{Event}
@@ -262,26 +263,26 @@ module _ (apart p : ℕ) (action : Action) (line f : ℕ) (g : Answer → Runs) 
 
 -- ---- code
 
-code_fits : (apart : ℕ) (code : List Instruction) (m : Memory) → apart ≡ length code → Fits apart 0 (does (choosing apart) false 0 code m) (does behaving false 0 code m)
-code_fits apart code m size =
+code_fits : (apart : ℕ) (code : List Instruction) (m : Memory) → is_static_code code ≡ true → apart ≡ length code → Fits apart 0 (does (choosing apart) false 0 code m) (does behaving false 0 code m)
+code_fits apart code m static size =
     does_related apart (choosing apart) behaving (Fits apart) (fits_lower apart) (fits_end apart) (λ p action line f g h asked few fits. fits_ask apart p action line f g h asked few fits)
-    (λ p caller f line arguments g h. fits_end apart p Blocked tt) (λ p given. fits_end apart p Blocked tt) 0 code m (omega (arith, size))
+    (λ p caller f line arguments g h. fits_end apart p Blocked tt) (λ p given. fits_end apart p Blocked tt) 0 code m static (omega (arith, size))
 
 abbrev RunIs : (ℕ → ℕ) → ℕ → Runs → Run → Type 0
 RunIs v p runs r = runs v ≡ r
 
-run_is : (v : ℕ → ℕ) (apart : ℕ) (code : List Instruction) (m : Memory) → apart ≡ length code → does (choosing apart) false 0 code m v ≡ does (running v apart) false 0 code m
-run_is v apart code m size =
+run_is : (v : ℕ → ℕ) (apart : ℕ) (code : List Instruction) (m : Memory) → is_static_code code ≡ true → apart ≡ length code → does (choosing apart) false 0 code m v ≡ does (running v apart) false 0 code m
+run_is v apart code m static size =
     does_related apart (choosing apart) (running v apart) (RunIs v) (λ p r s h. h) (λ p end ends. refl)
     (λ p action line f g h asked few same. ap (asks action line f (answer_at v apart p action)) (same (answer_at v apart p action)))
-    (λ p caller f line arguments g h. refl) (λ p given. refl) 0 code m (omega (arith, size))
+    (λ p caller f line arguments g h. refl) (λ p given. refl) 0 code m static (omega (arith, size))
 
 -- events that tell the run of code under each valuation are a form of what it does
-pub is_form : (d : List Node) (es : List Event) (code : List Instruction) (m : Memory) → ((v : ℕ → ℕ) → run_read v d es ≡ does (running v (length code)) false 0 code m) → IsForm (does behaving false 0 code m) d es
-is_form d es code m reads =
+pub is_form : (d : List Node) (es : List Event) (code : List Instruction) (m : Memory) → is_static_code code ≡ true → ((v : ℕ → ℕ) → run_read v d es ≡ does (running v (length code)) false 0 code m) → IsForm (does behaving false 0 code m) d es
+is_form d es code m static reads =
     let apart = length code in
-    let fits = code_fits apart code m refl in
-    let same : (v : ℕ → ℕ) → run_read v d es ≡ does (choosing apart) false 0 code m v = λ v. reads v ∙ sym (run_is v apart code m refl) in
+    let fits = code_fits apart code m static refl in
+    let same : (v : ℕ → ℕ) → run_read v d es ≡ does (choosing apart) false 0 code m v = λ v. reads v ∙ sym (run_is v apart code m static refl) in
     record {
       gives = λ v run next begins. fits.gives v run next (subst (Begins run next) (same v) begins);
       has = λ run next is. let found = fits.has run next is in (found.0, subst (Begins run next) (sym (same found.0)) found.1);

@@ -13,6 +13,8 @@ use Rattle.actions.specs.Behaviour.{word_64}
 use Rattle.actions.specs.declared.action.Next.TheVariants.{Ended}
 use Rattle.word_dag.specs.declared.nodes.Node.{Node}
 use Rattle.goto_prog.specs.declared.code.Instruction.{Instruction}
+use Rattle.goto_prog.specs.Static.{is_static, is_static_code}
+use Rattle.goto_prog.proofs.Registers.{both}
 use Rattle.goto_prog.specs.Meaning.{Memory, does, places}
 use Rattle.goto_prog.specs.Threads.{behaving}
 use Rattle.cell_trees.specs.Trees.{Arena}
@@ -39,13 +41,13 @@ pub visits_slot : (until : List ℕ) (code : Listing) (place : ℕ) (i : Instruc
 visits_slot until code place i d e p p1 q s pending events trees passes = record {
   within = passes.within;
   size = ap suc passes.size ∙ ap length (sym pending);
-  goes = λ v rest covers.
+  goes = λ v rest static covers.
       let w = guarded v d p1.trees code s in
       let ws = arrivals v d p1.trees code p1.pending.items in
       let xs = arrivals v e q.trees code q.pending.items in
       let before = seen v d p1.events.items in
       let told_here = on w (tells v (length code.instructions) place i.line i.function i.operation) in
-      let step : told_here ++ told v (length code.instructions) (suc place) rest xs ≡ told v (length code.instructions) place (i ∷ rest) (w ∷ ws) = told_step (length code.registers) until v (length code.instructions) place i rest w ws xs covers (passes.leads v) in
+      let step : told_here ++ told v (length code.instructions) (suc place) rest xs ≡ told v (length code.instructions) place (i ∷ rest) (w ∷ ws) = told_step (length code.registers) until v (length code.instructions) place i rest w ws xs (both (is_static i.operation) (is_static_code rest) static).1 covers (passes.leads v) in
       ap (λ ys. ys ++ told v (length code.instructions) (suc place) rest xs) (passes.told v) ∙ append_assoc before told_here (told v (length code.instructions) (suc place) rest xs) ∙ ap (λ ys. before ++ ys) step
       ∙ (let a = ap (seen v d) events in let b : told v (length code.instructions) place (i ∷ rest) (w ∷ ws) ≡ told v (length code.instructions) place (i ∷ rest) (arrivals v d p.trees code p.pending.items) = (λ k. told v (length code.instructions) place (i ∷ rest) (arrivals v d (trees k) code (sym pending k))) in λ k. a k ++ b k);
 }
@@ -55,7 +57,7 @@ pub visits_none : (until : List ℕ) (code : Listing) (place : ℕ) (i : Instruc
 visits_none until code place i d p q within pending events trees = record {
   within = within;
   size = ap length (sym pending);
-  goes = λ v rest covers.
+  goes = λ v rest static covers.
       let ws = arrivals v d q.trees code q.pending.items in
       let a = ap (seen v d) events in
       let b : told v (length code.instructions) (suc place) rest ws ≡ told v (length code.instructions) place (i ∷ rest) (None ∷ ws) = ap (told v (length code.instructions) (suc place) rest) (sym (leaves_none v (length code.instructions) place i.operation ws)) in
@@ -76,22 +78,37 @@ popped_first d code p q s within pending =
 
 -- ---- all of it
 
+-- code without operations on pointers has none from a place on, and none at it
+static_drop : (k : ℕ) (code : List Instruction) → is_static_code code ≡ true → is_static_code (drop k code) ≡ true
+static_drop zero code static = static
+static_drop (suc k) [] static = refl
+static_drop (suc k) (i ∷ code) static = static_drop k code (both (is_static i.operation) (is_static_code code) static).1
+
+pub static_in : (code : Listing) (is : List Instruction) (place : ℕ) (z : Instruction) → is ≡ code.instructions → is_static_code code.instructions ≡ true → place < length is → is_static (get_or is place z).operation ≡ true
+static_in code is place z same static lt =
+    subst (λ (xs : List Instruction). is_static (get_or xs place z).operation ≡ true) (sym same) (there place code.instructions static (subst (λ (xs : List Instruction). place < length xs) same lt))
+  where
+    there : (k : ℕ) (xs : List Instruction) → is_static_code xs ≡ true → k < length xs → is_static (get_or xs k z).operation ≡ true
+    there k [] all less = absurd (omega (arith, less))
+    there zero (x ∷ xs) all less = (both (is_static x.operation) (is_static_code xs) all).0
+    there (suc k) (x ∷ xs) all less = there k xs (both (is_static x.operation) (is_static_code xs) all).1 (omega (arith, less))
+
 covers_drop : (registers : ℕ) (until : List ℕ) (p k q : ℕ) (code : List Instruction) → q ≡ p + k → Covers registers until p code → Covers registers until q (drop k code)
 covers_drop registers until p zero q code e h = (let f : q ≡ p = omega (arith, e) in subst (λ n. Covers registers until n code) (sym f) h)
 covers_drop registers until p (suc k) q [] e h = tt
 covers_drop registers until p (suc k) q (i ∷ code) e h = covers_drop registers until (suc p) k q code (omega (arith, e)) h.1
 
-pub visited : (until : List ℕ) (code : Listing) (place : ℕ) (z : Instruction) (all : (ℕ → ℕ) → Arrivals) (d e : List Node) (p q : Pass) → place < length code.instructions → Covers (length code.registers) until 0 code.instructions
+pub visited : (until : List ℕ) (code : Listing) (place : ℕ) (z : Instruction) (all : (ℕ → ℕ) → Arrivals) (d e : List Node) (p q : Pass) → place < length code.instructions → is_static_code code.instructions ≡ true → Covers (length code.registers) until 0 code.instructions
     → Visits until code place (get_or code.instructions place z) d e p q
     → ((v : ℕ → ℕ) → seen v d p.events.items ++ told v (length code.instructions) place (drop place code.instructions) (arrivals v d p.trees code p.pending.items) ≡ told v (length code.instructions) 0 code.instructions (all v))
     → (v : ℕ → ℕ) → seen v e q.events.items ++ told v (length code.instructions) (place + 1) (drop (place + 1) code.instructions) (arrivals v e q.trees code q.pending.items) ≡ told v (length code.instructions) 0 code.instructions (all v)
-visited until code place z all d e p q lt covers visits so v =
+visited until code place z all d e p q lt static covers visits so v =
     let i = get_or code.instructions place z in
     let rest = drop (suc place) code.instructions in
     let n : place + 1 ≡ suc place = omega arith in
     let front : drop place code.instructions ≡ i ∷ rest = drop-cons code.instructions place z lt in
     ap (λ m. seen v e q.events.items ++ told v (length code.instructions) m (drop m code.instructions) (arrivals v e q.trees code q.pending.items)) n
-    ∙ visits.goes v rest (covers_drop (length code.registers) until 0 (suc place) (suc place) code.instructions (omega arith) covers)
+    ∙ visits.goes v rest (subst (λ (xs : List Instruction). is_static_code xs ≡ true) front (static_drop place code.instructions static)) (covers_drop (length code.registers) until 0 (suc place) (suc place) code.instructions (omega arith) covers)
     ∙ ap (λ xs. seen v d p.events.items ++ told v (length code.instructions) place xs (arrivals v d p.trees code p.pending.items)) (sym front) ∙ so v
 
 drop_all : (n : ℕ) (xs : List Instruction) → length xs ≤ n → drop n xs ≡ []
@@ -124,15 +141,15 @@ first_run : (v : ℕ → ℕ) (apart : ℕ) (code : List Instruction) (m : Memor
 first_run v apart [] m ws = refl
 first_run v apart (i ∷ code) m ws = refl
 
-pub form_of : (d : List Node) (es : List Event) (code : List Instruction) (m : Memory) → ((v : ℕ → ℕ) → seen v d es ≡ told v (length code) 0 code (Some m ∷ replicate (length code) None)) → IsForm (does behaving false 0 code m) d es
-form_of d es code m same =
-    is_form d es code m (λ v.
+pub form_of : (d : List Node) (es : List Event) (code : List Instruction) (m : Memory) → is_static_code code ≡ true → ((v : ℕ → ℕ) → seen v d es ≡ told v (length code) 0 code (Some m ∷ replicate (length code) None)) → IsForm (does behaving false 0 code m) d es
+form_of d es code m static same =
+    is_form d es code m static (λ v.
     let ws = Some m ∷ replicate (length code) None in
-    ap (λ xs. read xs (stops (Ended (word_64 0)))) (same v) ∙ tells_all v (length code) code 0 ws (nowhere_none (length code)) (omega (arith, length_none (length code))) ∙ first_run v (length code) code m (replicate (length code) None))
+    ap (λ xs. read xs (stops (Ended (word_64 0)))) (same v) ∙ tells_all v (length code) code 0 static ws (nowhere_none (length code)) (omega (arith, length_none (length code))) ∙ first_run v (length code) code m (replicate (length code) None))
 
-pub one_form : (d : List Node) (g : List Form) (es : List Event) (objects : Objects) (code : Listing) (m : Memory) → g ≡ record { events = es; store = objects } ∷ [] → FormIn d es
+pub one_form : (d : List Node) (g : List Form) (es : List Event) (objects : Objects) (code : Listing) (m : Memory) → is_static_code code.instructions ≡ true → g ≡ record { events = es; store = objects } ∷ [] → FormIn d es
     → ((v : ℕ → ℕ) → seen v d es ≡ told v (length code.instructions) 0 code.instructions (Some m ∷ replicate (length code.instructions) None)) → AreForms (does behaving false 0 code.instructions m) objects d g
-one_form d g es objects code m is within same = subst (AreForms (does behaving false 0 code.instructions m) objects d) (sym is) (form_of d es code.instructions m same, within, refl)
+one_form d g es objects code m static is within same = subst (AreForms (does behaving false 0 code.instructions m) objects d) (sym is) (form_of d es code.instructions m static same, within, refl)
 
 -- at the start of the code that a plan is of
 pub started : (own code : Listing) (d : List Node) (p : Pass) → own ≡ code → PassIn d own p → ((v : ℕ → ℕ) → arrivals v d p.trees own p.pending.items ≡ Some (first_memory own) ∷ replicate (length own.instructions) None)

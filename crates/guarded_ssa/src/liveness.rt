@@ -34,6 +34,11 @@ fn checked(condition: Condition) -> (Option<usize>, Option<usize>)
         Condition::Count { count, .. } => (Some(count), None),
         Condition::LeftShift { left, count, .. } => (Some(left), Some(count)),
         Condition::Returned { returned } => (Some(returned), None),
+        // Code has no checks of pointers yet.
+        Condition::Within { .. }
+        | Condition::SameObject { .. }
+        | Condition::Inside { .. }
+        | Condition::AtMost { .. } => (None, None),
     }
 }
 
@@ -66,6 +71,23 @@ fn reads(operation: Operation) -> (Option<usize>, Option<usize>)
         | Operation::Use { .. }
         | Operation::Call { .. }
         | Operation::Return { .. } => (None, None),
+        // Code has no operations on pointers yet.
+        Operation::Move { .. }
+        | Operation::Offset { .. }
+        | Operation::Same { .. }
+        | Operation::Distance { .. }
+        | Operation::Relate { .. }
+        | Operation::Take { .. }
+        | Operation::Put { .. }
+        | Operation::Read { .. }
+        | Operation::Write { .. }
+        | Operation::Look { .. }
+        | Operation::Fill { .. }
+        | Operation::Alloc { .. }
+        | Operation::Die { .. }
+        | Operation::Free { .. }
+        | Operation::MayFail { .. }
+        | Operation::Limit { .. } => (None, None),
     }
 }
 

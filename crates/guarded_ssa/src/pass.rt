@@ -32,6 +32,7 @@ ghost use Rattle.c_types.specs.Integers.{width as type_width};
 ghost use Rattle.core_tree.specs.Typed.{is_within};
 ghost use Rattle.goto_prog.specs.Fitting.{is_there, is_register, check_fits, operation_fits};
 ghost use Rattle.goto_prog.specs.Running.{is_calculation};
+ghost use Rattle.goto_prog.specs.Static.{is_static, is_static_check};
 ghost use Rattle.goto_prog.specs.UnrolledCode.{is_flat};
 ghost use Rattle.guarded_ssa.specs.Forms.{EventIn};
 ghost use Rattle.goto_prog.specs.CodeThread.{first_memory};
@@ -176,6 +177,7 @@ impl Pass {
         requires reached { Reached plan.now dag.old self.old here }
         requires fits { operation_fits plan.now.code.now.registers plan.now.code.now.blocks 0 operation ≡ true }
         requires calculation { is_calculation operation ≡ true }
+        requires plain { is_static operation ≡ true }
         ensures extends { Extends dag.old dag.new }
         ensures passes { OnOk result (PassesHere plan.now here operation dag.old dag.new self.old self.new) }
     {
@@ -265,6 +267,7 @@ impl Pass {
     ) -> Result<(), AllocError>
         requires reached { Reached plan.now dag.old self.old here }
         requires fits { check_fits plan.now.code.now.registers condition ≡ true }
+        requires plain { is_static_check condition ≡ true }
         ensures extends { Extends dag.old dag.new }
         ensures passes { OnOk result (PassesHere plan.now here (Operation.Check condition) dag.old dag.new self.old self.new) }
     {
@@ -485,6 +488,7 @@ impl Pass {
     ) -> Result<(), AllocError>
         requires reached { Reached plan.now dag.old self.old here }
         requires stops { is_flat operation ≡ false }
+        requires plain { is_static operation ≡ true }
         ensures extends { Extends dag.old dag.new }
         ensures passes { OnOk result (PassesHere plan.now here operation dag.old dag.new self.old self.new) }
     {
@@ -513,6 +517,7 @@ impl Pass {
         requires place { here.place < 2 ^ 32 }
         requires few { length plan.now.code.now.instructions < 2 ^ 33 }
         requires fits { operation_fits plan.now.code.now.registers plan.now.code.now.blocks (length (drop (here.place + 1) plan.now.code.now.instructions)) operation ≡ true }
+        requires plain { is_static operation ≡ true }
         ensures extends { Extends dag.old dag.new }
         ensures passes { OnOk result (PassesHere plan.now here operation dag.old dag.new self.old self.new) }
     {
@@ -554,6 +559,22 @@ impl Pass {
             | Operation::Compare { .. }
             | Operation::IsZero { .. }
             | Operation::Use { .. } => self.calculate(dag, plan, here, operation),
+            Operation::Move { .. }
+            | Operation::Offset { .. }
+            | Operation::Same { .. }
+            | Operation::Distance { .. }
+            | Operation::Relate { .. }
+            | Operation::Take { .. }
+            | Operation::Put { .. }
+            | Operation::Read { .. }
+            | Operation::Write { .. }
+            | Operation::Look { .. }
+            | Operation::Fill { .. }
+            | Operation::Alloc { .. }
+            | Operation::Die { .. }
+            | Operation::Free { .. }
+            | Operation::MayFail { .. }
+            | Operation::Limit { .. } => unreachable!(),
         }
     }
 
@@ -572,6 +593,7 @@ impl Pass {
         requires place { place < 2 ^ 32 }
         requires few { length plan.now.code.now.instructions < 2 ^ 33 }
         requires fits { operation_fits plan.now.code.now.registers plan.now.code.now.blocks (length (drop (place + 1) plan.now.code.now.instructions)) i.operation ≡ true }
+        requires plain { is_static i.operation ≡ true }
         ensures extends { Extends dag.old dag.new }
         ensures visits { OnOk result (Visits plan.now.until.items plan.now.code.now place i dag.old dag.new self.old self.new) }
     {

@@ -7,6 +7,7 @@ ghost use Rattle.value_nodes.specs.Values.{IsWord};
 ghost use Rattle.cell_trees.specs.Trees.{span, Keeps};
 ghost use Rattle.goto_prog.specs.Fitting.{is_there, operation_fits};
 ghost use Rattle.goto_prog.specs.Running.{is_calculation};
+ghost use Rattle.goto_prog.specs.Static.{is_static};
 ghost use Rattle.c_types.specs.Integers.{width as type_width};
 ghost use Rattle.guarded_ssa.specs.inner.Results.{sets_register, into_of};
 ghost use Rattle.goto_prog.specs.Meaning.{register, with_register, calculated};
@@ -240,6 +241,7 @@ impl Slot {
         requires slot { SlotOf plan.now dag.old trees.old self }
         requires fits { operation_fits plan.now.code.now.registers plan.now.code.now.blocks 0 operation ≡ true }
         requires calculation { is_calculation operation ≡ true }
+        requires plain { is_static operation ≡ true }
         ensures extends { Extends dag.old dag.new }
         ensures keeps { Keeps trees.old trees.new }
         ensures within { IfOk result (SlotIn dag.new trees.new plan.now.code.now) }

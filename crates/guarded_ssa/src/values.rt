@@ -9,6 +9,7 @@ ghost use Rattle.word_dag.specs.Meaning.{value};
 ghost use Rattle.value_nodes.specs.Values.{IsWord, IsValue, IsTest};
 ghost use Rattle.goto_prog.specs.Fitting.{is_there, is_register, is_wide, check_fits, operation_fits};
 ghost use Rattle.goto_prog.specs.Meaning.{register, check_class};
+ghost use Rattle.goto_prog.specs.Static.{is_static_check};
 ghost use Rattle.guarded_ssa.specs.inner.Held.{SlotIn, held};
 ghost use Rattle.guarded_ssa.specs.inner.Conditions.{SlotOf};
 ghost use Rattle.guarded_ssa.specs.inner.Results.{sets_register, into_of, result_of, class_of};
@@ -221,6 +222,7 @@ impl Slot {
     ) -> Result<Id, AllocError>
         requires within { SlotIn dag.old trees.now plan.now.code.now self.now }
         requires fits { check_fits plan.now.code.now.registers condition ≡ true }
+        requires plain { is_static_check condition ≡ true }
         ensures extends { Extends dag.old dag.new }
         ensures made { IfOk result (λ i. IsTest dag.new i (λ v. is_some (check_class condition (held v dag.old trees.now plan.now.code.now self.now)))) }
     {
@@ -270,6 +272,10 @@ impl Slot {
                 let a = self.register(dag, trees, plan, returned);
                 zero_test(dag, a)
             }
+            Condition::Within { .. }
+            | Condition::SameObject { .. }
+            | Condition::Inside { .. }
+            | Condition::AtMost { .. } => unreachable!(),
         }
     }
 }
@@ -284,5 +290,9 @@ pub fn class_of(condition: Condition) -> Class
             Class::Overflow,
         Condition::Count { .. } | Condition::LeftShift { .. } => Class::Shift,
         Condition::Returned { .. } => Class::Return,
+        Condition::Within { class, .. } => class,
+        Condition::SameObject { .. } => Class::Pointer,
+        Condition::Inside { .. } => Class::Bounds,
+        Condition::AtMost { .. } => Class::MallocLimit,
     }
 }

@@ -10,3 +10,4 @@ pub mod Defined
 pub mod FunctionCode
 pub mod SameThread
 pub mod CodeFits
+pub mod StaticCode

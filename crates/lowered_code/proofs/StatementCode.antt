@@ -26,12 +26,13 @@ use Rattle.goto_prog.specs.Threads.{Calls, acting}
 use Rattle.goto_prog.specs.Nodes.{Nodes, plain, repeats, node_count, Routine}
 use Rattle.goto_prog.specs.Nodes as nodes
 use Rattle.goto_prog.specs.Structured as flat
-use Rattle.goto_prog.specs.Structured.{Bounded, nodes_before, round_count, tests}
+use Rattle.goto_prog.specs.Structured.{Bounded, resolved, nodes_before, round_count, tests}
 use Rattle.lowered_code.specs.Lowering.{Frame, top, structure_registers, code, structure_code, size_of, first_registers, words_code, first_code, initial_code, entry_registers, part_registers, case_registers, statement_registers, items_registers, entry_code, part_code, test_code, Ways, within_loop, within_switch, ends, plains, to_place, declares_none, case_tests, last_case, guarded, statement_code, items_code, labels_of, case_jumps, default_place}
 use Rattle.lowered_code.specs.Lowered.{given_size}
 use Rattle.c_temporaries.specs.Temporaries.{Temporaries, no_temporaries, both, under, temporaries, structure_temporaries, part_temporaries, statement_temporaries, items_temporaries}
 use Rattle.lowered_code.proofs.RegisterTypes.{left_of, right_of, filled_there, filled_within}
 use Rattle.lowered_code.proofs.RegisterTypes as registers_of
+use Rattle.lowered_code.proofs.StaticCode.{AllStatic, resolved_static, code_static, structure_static, entry_static, initial_static, part_static, test_static, cases_static}
 use Rattle.lowered_code.proofs.BlockBytes.{low_count, few_bytes, taken_back}
 use Rattle.lowered_code.proofs.Housing.{Housed, housed_left, housed_right, housed_under, housed_room}
 use Rattle.lowered_code.proofs.Placing.{Places, begin_in, on_in, written, Kept, kept-refl, kept-then, kept-set, kept-write, kept-clear, filled-kept, set_same, set_other, set_room, same_final, same_ask}
@@ -142,12 +143,13 @@ module _ (running : Running) (others objects : List ℕ) (functions : List Signa
 
   -- ---- code in front of code
 
-  on_plains : (xs : List Instruction) (rest : Nodes) (later : Places) → nodes_on (plains xs rest) later ≡ on xs (nodes_on rest later)
-  on_plains [] rest later = refl
-  on_plains (i ∷ xs) rest later = λ k. operates reading true 0 i.line i.function i.operation (on_plains xs rest later k) ∷ on_plains xs rest later k
+  on_plains : (xs : List Instruction) (rest : Nodes) (later : Places) → AllStatic xs → nodes_on (plains xs rest) later ≡ on xs (nodes_on rest later)
+  on_plains [] rest later static = refl
+  on_plains (i ∷ xs) rest later static = λ k.
+      operates reading true 0 i.line i.function (resolved_static limits i.operation static.0 k) (on_plains xs rest later static.1 k) ∷ on_plains xs rest later static.1 k
 
-  begin_plains : (xs : List Instruction) (rest : Nodes) (later : Places) (m : Memory) → begin (nodes_on (plains xs rest) later) m ≡ begin (on xs (nodes_on rest later)) m
-  begin_plains xs rest later m = ap (λ (ps : Places). begin ps m) (on_plains xs rest later)
+  begin_plains : (xs : List Instruction) (rest : Nodes) (later : Places) (m : Memory) → AllStatic xs → begin (nodes_on (plains xs rest) later) m ≡ begin (on xs (nodes_on rest later)) m
+  begin_plains xs rest later m static = ap (λ (ps : Places). begin ps m) (on_plains xs rest later static)
 
   pub places_count : (x : Nodes) (later : Places) → length (nodes_on x later) ≡ node_count x + length later
   places_count nodes.done later = omega arith
@@ -173,7 +175,7 @@ module _ (running : Running) (others objects : List ℕ) (functions : List Signa
       assoc (x ∷ xs) ys zs = ap (λ (ps : Places). x ∷ ps) (assoc xs ys zs)
 
   plain_front : (i : Instruction) (x rest : Nodes) → InFront x rest → InFront (plain i x) rest
-  plain_front i x rest front = then_front (plain i x) x rest (record { front = λ later. operates reading true 0 i.line i.function i.operation (nodes_on x later) ∷ []; is = λ later. refl }) front
+  plain_front i x rest front = then_front (plain i x) x rest (record { front = λ later. operates reading true 0 i.line i.function (resolved limits i.operation) (nodes_on x later) ∷ []; is = λ later. refl }) front
 
   plains_front : (xs : List Instruction) (x rest : Nodes) → InFront x rest → InFront (plains xs x) rest
   plains_front [] x rest front = front
@@ -576,9 +578,9 @@ module _ (running : Running) (others objects : List ℕ) (functions : List Signa
         let base : behind + 1 ≡ length later_in = omega (arith, is_behind, places_count rest later) in
         let end_front : InFront end ends = plains_front _ _ ends (plains_front _ ends ends (itself ends)) in
         let end_goes : Goes (nodes_on end later_in) follows_end = λ m1 ready1.
-        begin_plains (part_code here own last in_last) _ later_in m1
+        begin_plains (part_code here own last in_last) _ later_in m1 (part_static here own last in_last)
         ∙ part_means last in_last (nodes_on (plains (test_code here own line test n) ends) later_in) (λ now. tested running meant test now on_again follows) last_typed last_temporaries some_last last_room (λ m2 ready2.
-        begin_plains (test_code here own line test n) ends later_in m2
+        begin_plains (test_code here own line test n) ends later_in m2 (test_static here own line test n)
         ∙ test_means line test n later_in on_again follows test_typed test_temporaries some test_room same goes m2 ready2) m1 ready1 in
         let out_in : LeadOut ways_in (in_loop exits follows follows_end) (nodes_on end later_in) = record {
           breaks = leads_front end ends later_in behind follows end_front (leads_behind (again ∷ []) (nodes_on rest later) behind follows (leads_begin (nodes_on rest later) behind follows (omega (arith, is_behind, places_count rest later)) goes));
@@ -609,7 +611,7 @@ module _ (running : Running) (others objects : List ℕ) (functions : List Signa
         leads_either b (nodes_on body later) (default_place here own base ways items n rest) behind (λ vs. at_default running meant items exits vs follows) follows
         (λ is. default_it n ways exits rest later follows (is_default ∙ is) typed housed some room out goes)
         (leads_front body rest later behind follows (items_front items base ways n rest) (leads_begin (nodes_on rest later) behind follows (omega (arith, places_count rest later)) goes)) in
-        begin_plains (entry_code here own items in_entry) _ later m
+        begin_plains (entry_code here own items in_entry) _ later m (entry_static here own items in_entry)
         ∙ entering items in_entry in_entry m m _ (λ now. if has_case items x then at_case running meant items x exits now follows else other now) typed ready (kept-refl edge d in_entry m) (omega (arith, is_entry)) (omega arith) (omega (arith, entry_room)) (λ m1 kept.
         let ready1 = ready_kept in_entry m m1 (omega (arith, is_entry)) ready kept in
         jumps_it xr x (xr + 1) n ways exits rest last later follows other typed housed some room out goes (plain_front _ body body (itself body)) (omega arith) (omega arith) (omega (arith, is_entry, entry_room))
@@ -648,7 +650,7 @@ module _ (running : Running) (others objects : List ℕ) (functions : List Signa
         let ready1 : Ready m1 = ready_kept before m m1 some_before ready (kept-set edge d before before m 0 (omega arith)) in
         let value1 : register m1 xr ≡ x = set_other m before 0 xr (λ e. omega (arith, e)) ∙ value in
         let prior : register m1 before ≡ 0 = set_same m before 0 (omega (arith, is_entry, entry_room, ready.room)) in
-        begin_plains (case_tests here own line xr before items (xr + 1)) _ later m1
+        begin_plains (case_tests here own line xr before items (xr + 1)) _ later m1 (cases_static here own line xr before items (xr + 1))
         ∙ tests_mean items line xr before (xr + 1) x false m1 _ _ value1 prior (omega arith) (omega arith) (omega (arith, is_entry, entry_room)) ready1 (λ m2 after.
         let skipped : at reading (nodes_on entered later) (node_count entered - node_count rest) m2 ≡ follows (view m2) =
         skip_to (nodes_on entered later) (node_count entered - node_count rest) behind follows (omega (arith, places_count entered later))
@@ -665,14 +667,14 @@ module _ (running : Running) (others objects : List ℕ) (functions : List Signa
           → Goes (nodes_on (statement_code here own (length later) ways s n rest) later) (λ vs. exec running meant s exits vs follows)
       statement_means (block items) ways exits n rest later follows typed housed some room out goes m ready =
           let in_entry = n + items_registers own items in
-          begin_plains (entry_code here own items in_entry) _ later m
+          begin_plains (entry_code here own items in_entry) _ later m (entry_static here own items in_entry)
           ∙ entering items in_entry 1 m m _ (λ after. exec_items running meant items exits after follows) typed ready (kept-refl edge d 1 m) (omega arith) (omega (arith, some)) (omega (arith, room)) (λ m' kept.
           items_mean items ways exits n rest later follows typed housed some (omega (arith, room)) out goes m' (ready_kept 1 m m' (omega arith) ready kept))
           ∙ sym (block_same items exits (view m) follows)
       statement_means (if_then line test s) ways exits n rest later follows typed housed some room out goes m ready =
           let yes = statement_code here own (length later) ways s n rest in
           let in_test = n + statement_registers own s in
-          begin_plains (code here test in_test) _ later m
+          begin_plains (code here test in_test) _ later m (code_static here test in_test)
           ∙ value_first test in_test m _ (λ x after. if is_true x then exec running meant s exits after follows else follows after) (right_of _ _ (left_of _ _ typed)) (housed_left sizes edge d (temporaries test) (statement_temporaries s) housed) ready (omega (arith, some)) (omega (arith, room)) (λ m1 ready1 kept1.
           turned running others calls hands meant (register m1 (in_test + top test) == 0) _ _ _ _
           (skip_to (nodes_on yes later) (node_count yes - node_count rest) (length (nodes_on rest later)) follows (omega (arith, places_count yes later, places_count rest later))
@@ -694,20 +696,20 @@ module _ (running : Running) (others objects : List ℕ) (functions : List Signa
           let end : Leads (nodes_on no later) (length (nodes_on rest later)) follows = leads_front no rest later (length (nodes_on rest later)) follows no_front (leads_begin (nodes_on rest later) (length (nodes_on rest later)) follows refl goes) in
           let jump_goes : Goes (nodes_on jump later) follows =
           λ m' ready'. skip_to (nodes_on no later) (base + node_count no - (base + node_count rest)) (length (nodes_on rest later)) follows (omega (arith, places_count no later, places_count rest later)) end m' ready' in
-          begin_plains (code here test in_test) _ later m
+          begin_plains (code here test in_test) _ later m (code_static here test in_test)
           ∙ value_first test in_test m _ (λ x after. if is_true x then exec running meant s exits after follows else exec running meant t exits after follows) (right_of _ _ (left_of _ _ (left_of _ _ typed))) (housed_left sizes edge d (temporaries test) (both (statement_temporaries s) (statement_temporaries t)) housed) ready (omega (arith, some)) (omega (arith, room)) (λ m1 ready1 kept1.
           turned running others calls hands meant (register m1 (in_test + top test) == 0) _ _ _ _
           (skip_to (nodes_on yes later) (node_count yes - node_count no) (length (nodes_on no later)) (λ vs. exec running meant t exits vs follows) (omega (arith, places_count yes later, places_count no later))
           (leads_front yes no later (length (nodes_on no later)) (λ vs. exec running meant t exits vs follows) yes_front (leads_begin (nodes_on no later) (length (nodes_on no later)) (λ vs. exec running meant t exits vs follows) refl no_goes)) m1 ready1)
           (statement_means s ways exits second jump later follows (right_of _ _ (left_of _ _ typed)) (housed_left sizes edge d (statement_temporaries s) (statement_temporaries t) both_temporaries) (omega (arith, some)) (omega (arith, room)) (lead_front ways exits jump rest later jump_front out) jump_goes m1 ready1))
       statement_means (evaluate e) ways exits n rest later follows typed housed some room out goes m ready =
-          begin_plains (code here e n) rest later m
+          begin_plains (code here e n) rest later m (code_static here e n)
           ∙ value_first e n m _ (λ x. follows) typed housed ready some (omega (arith, room)) (λ m1 ready1 kept1. goes m1 ready1)
       statement_means (returns line e) ways exits n rest later follows typed housed some room out goes m ready =
           let t = number_type e in
           let result = edge + 1 in
           let is : gives ≡ Some (passed.Integer t) = number_returned (type_of e) (left_of _ _ (left_of _ _ typed)) (right_of _ _ (left_of _ _ typed)) in
-          begin_plains (code here e n) _ later m
+          begin_plains (code here e n) _ later m (code_static here e n)
           ∙ value_first e n m _ (λ x. exits.returns (source.number x)) (right_of _ _ typed) housed ready some (omega (arith, room)) (λ m1 ready1 kept1.
           let x = register m1 (n + top e) in
           let new = low_bytes (bytes t) x in
@@ -722,7 +724,7 @@ module _ (running : Running) (others objects : List ℕ) (functions : List Signa
           let result = edge + 1 in
           let is : gives ≡ Some (passed.Structure (trees.size_of a)) = same_gives running others calls hands meant gives (Some (passed.Structure (trees.size_of a))) (left_of _ _ typed) in
           let size : length (block_of m.blocks result) ≡ trees.size_of a = result_length m ready ∙ ap given_size is in
-          begin_plains (structure_code here a n result 0) _ later m
+          begin_plains (structure_code here a n result 0) _ later m (structure_static here a n result 0)
           ∙ structure_first a n result m _ (λ value. exits.returns (source.structure value)) (right_of _ _ typed) housed ready (omega arith) ready.placed.deep (omega (arith, size)) (omega (arith, room)) (λ m1 value long block_is.
           (λ i. hands (Some ((block_is ∙ put_whole value (block_of m.blocks result) (long ∙ sym size)) i)))
           ∙ sym (λ i. hands (handed (is i) (source.structure value)))
@@ -755,9 +757,9 @@ module _ (running : Running) (others objects : List ℕ) (functions : List Signa
           some (omega (arith, some)) (omega (arith, some)) (omega (arith, room)) (omega (arith, room)) (omega (arith, room)) out goes same m2 ready2)
           (tests bounded running.function l - 1) m' ready'
           ∙ (λ i. source.rounds running line round (tests_same l i - 1) (view m')) in
-          begin_plains (part_code here own first in_first) _ later m
+          begin_plains (part_code here own first in_first) _ later m (part_static here own first in_first)
           ∙ part_means first in_first (nodes_on (plains (test_code here own line test in_test) loop) later) (λ start. tested running meant test start rest_rounds follows) first_typed first_temporaries (omega (arith, some)) (omega (arith, room)) (λ m1 ready1.
-          begin_plains (test_code here own line test in_test) loop later m1
+          begin_plains (test_code here own line test in_test) loop later m1 (test_static here own line test in_test)
           ∙ test_means line test in_test (nodes_on loop later) rest_rounds follows test_typed test_temporaries (omega (arith, some)) (omega (arith, room)) loop_goes goes m1 ready1) m ready
       statement_means (do_loop line l s test) ways exits n rest later follows typed housed some room out goes m ready =
           let behind = length later + node_count rest in
@@ -787,7 +789,7 @@ module _ (running : Running) (others objects : List ℕ) (functions : List Signa
             labels = out.labels;
             returns = out.returns;
           } in
-          begin_plains (code here e from) _ later m
+          begin_plains (code here e from) _ later m (code_static here e from)
           ∙ value_first e from m _ (chosen_in items (in_switch exits follows) follows) (right_of _ _ (left_of _ _ (left_of _ _ typed))) (housed_left sizes edge d (temporaries e) (items_temporaries items) housed) ready (omega (arith, some)) (omega (arith, room)) (λ m1 ready1 kept1.
           let x = register m1 (from + top e) in
           let m2 : Memory = with_register m1 (before + 1) x in
@@ -814,7 +816,7 @@ module _ (running : Running) (others objects : List ℕ) (functions : List Signa
           let in_value = n + items_registers own items in
           let fills_it = filled_within [] own v (type_of e) (left_of _ _ (left_of _ _ typed)) in
           let variable = variable_below running others calls hands meant v 0 (bytes t) fills_it in
-          begin_plains (code here e in_value) _ later m
+          begin_plains (code here e in_value) _ later m (code_static here e in_value)
           ∙ value_first e in_value m _ (λ x after. exec_items running meant items exits (write_variable after v 0 t x) follows) (right_of _ _ (left_of _ _ typed)) (housed_left sizes edge d (temporaries e) (items_temporaries items) housed) ready (omega (arith, some)) (omega (arith, room)) (λ m1 ready1 kept1.
           let new = low_bytes (bytes t) (register m1 (in_value + top e)) in
           let kept2 : Kept edge d 1 m1 (written m1 v 0 new) = kept-write edge d 1 v 0 new m1 m1 variable (low_room running others calls hands meant d m1 ready1.placed v 0 t (register m1 (in_value + top e)) fills_it) (kept-refl edge d 1 m1) in
@@ -825,7 +827,7 @@ module _ (running : Running) (others objects : List ℕ) (functions : List Signa
           let needs = under (trees.size_of a) (structure_temporaries a) in
           let about = left_of _ _ (left_of _ _ typed) in
           let in_value = n + items_registers own items in
-          begin_plains (initial_code here own line v a in_value) _ later m
+          begin_plains (initial_code here own line v a in_value) _ later m (initial_static here own line v a in_value)
           ∙ initial_means line v a in_value m _ (λ after. exec_items running meant items exits after follows) (test_less v edge (left_of _ _ about)) (sym (test_equal (trees.size_of a) (slice_index own v) (right_of _ _ about))) (right_of _ _ (left_of _ _ typed)) (housed_left sizes edge d needs (items_temporaries items) housed) ready (omega (arith, some)) (omega (arith, room))
           (items_mean items ways exits n rest later follows (right_of _ _ typed) (housed_right sizes edge d needs (items_temporaries items) housed) some (omega (arith, room)) out goes)
           ∙ sym (λ i. eval_structure running meant a (view m) (λ value after. source.initial running (sound.homeless v i) v value line after (λ now. exec_items running meant items exits now follows)))

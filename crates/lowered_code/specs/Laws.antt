@@ -7,6 +7,7 @@ use Rattle.c_profile.specs.Rules.{first_breach}
 use Rattle.c_meaning.specs.Source.{main_number, source_thread}
 use Rattle.goto_prog.specs.Nodes.{routines_fit}
 use Rattle.goto_prog.specs.Same.{DoSame}
+use Rattle.goto_prog.specs.Static.{are_static}
 use Rattle.goto_prog.specs.Structured.{function_thread}
 use Rattle.lowered_code.specs.Lowered.{function_codes}
 
@@ -19,3 +20,7 @@ KeepsMeaning =
 -- what it names is there, of fitting types
 abbrev pub FitsTogether : Type 0
 FitsTogether = (file : TypedFile) → file.pointers ≡ false → are_typed file ≡ true → routines_fit (function_codes 0 file.functions) ≡ true
+
+-- it has no operations on pointers, as forms over them are left out
+abbrev pub IsStatic : Type 0
+IsStatic = (file : TypedFile) → are_static (function_codes 0 file.functions) ≡ true

@@ -1,6 +1,6 @@
 //! The laws of lowered code, as functions that do nothing.
 
-ghost use Rattle.lowered_code.specs.Laws.{FitsTogether, KeepsMeaning};
+ghost use Rattle.lowered_code.specs.Laws.{FitsTogether, IsStatic, KeepsMeaning};
 
 /// What the code of an admitted file without forms over pointers does as strict code, under the bounds of a command, is what the file means under them.
 pub fn lowering_keeps_meaning()
@@ -10,4 +10,9 @@ pub fn lowering_keeps_meaning()
 /// The registers, blocks and places that lowered code names are there, of the types that are asked for.
 pub fn lowered_code_fits()
     ensures { FitsTogether }
+{}
+
+/// Lowered code has no operations on pointers: there is no code yet for forms over them.
+pub fn lowered_code_is_static()
+    ensures { IsStatic }
 {}

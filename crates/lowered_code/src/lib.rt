@@ -3,4 +3,4 @@
 
 mod laws;
 
-pub use laws::{lowered_code_fits, lowering_keeps_meaning};
+pub use laws::{lowered_code_fits, lowered_code_is_static, lowering_keeps_meaning};

@@ -9,7 +9,8 @@ ghost use Rattle.word_dag.specs.Growth.{Within};
 ghost use Rattle.core_tree.specs.Trees.{view_literals, view_core};
 ghost use Rattle.c_meaning.specs.Source.{source_thread, first_objects};
 ghost use Rattle.interleave.specs.World.{first_world};
-ghost use Rattle.goto_prog.specs.Flat.{plain_thread};
+ghost use Rattle.goto_prog.specs.Flat.{main_code, plain_thread};
+ghost use Rattle.goto_prog.specs.Static.{is_static_code};
 ghost use Rattle.goto_unwind.specs.Counts.{passed};
 ghost use Rattle.guarded_ssa.specs.Forms.{IsForm};
 ghost use Rattle.guarded_ssa.specs.Accesses.{AreObjects};
@@ -92,6 +93,7 @@ fn unrolled_code(alloc: Global, file: &Admitted, bounds: &Bounds) -> Result<Unro
     ensures same { IfOk result (λ u. (plain_thread u).behaves ≡ (source_thread (view_core file.now) bounds.now).behaves) }
     ensures store { IfOk result (λ u. u.store ≡ first_objects (view_core file.now)) }
     ensures objects { IfOk result (λ u. AreObjects u.store) }
+    ensures plain { IfOk result (λ u. is_static_code (main_code u).instructions ≡ true) }
     ensures stop { IfErr result (λ s. StopsWith s (IsPassed bounds.now (view_core file.now))) }
 {
     prove_objects(file);
@@ -109,6 +111,7 @@ fn unrolled_code(alloc: Global, file: &Admitted, bounds: &Bounds) -> Result<Unro
 
 /// The formula of the runs of unrolled code that break a check.
 fn formula_of(alloc: Global, dag: &mut Dag, unrolled: &Unrolled) -> Result<Formula, AllocError>
+    requires plain { is_static_code (main_code unrolled.now).instructions ≡ true }
     ensures within { IfOk result (λ f. FormulaIn dag.new f) }
     ensures form { IfOk result (λ f. (t : Thread) → (plain_thread unrolled.now).behaves ≡ t.behaves → IsForm t.behaves dag.new f.form.events) }
     ensures formula { IfOk result (λ f. (t : Thread) → AreObjects unrolled.now.store → (plain_thread unrolled.now).behaves ≡ t.behaves → IsFormula (first_world t unrolled.now.store) dag.new f) }

@@ -1,5 +1,5 @@
 -- What the nodes of a slot hold under a valuation.
-use Rattle.std.specs.Prelude.{◌≡◌, ◌+◌, length, ℕ, zero, suc, List, [], ◌∷◌, ◌++◌, Option, Some, None, map, take, drop, replicate, All, if◌then◌else◌}
+use Rattle.std.specs.Prelude.{◌≡◌, ◌+◌, length, ℕ, zero, suc, true, List, [], ◌∷◌, ◌++◌, Option, Some, None, map, take, drop, replicate, All, if◌then◌else◌}
 use Rattle.c_types.specs.declared.integers.IntegerType.{IntegerType}
 use Rattle.c_types.specs.declared.integers.IntegerType.TheVariants as types
 use Rattle.c_values.specs.Variables.{Variables}
@@ -9,6 +9,7 @@ use Rattle.value_nodes.specs.Values.{IsWord}
 use Rattle.cell_trees.specs.Trees.{Arena, looked, Keeps}
 use Rattle.goto_prog.specs.Meaning.{Memory}
 use Rattle.goto_prog.specs.CodeThread.{Listing}
+use Rattle.goto_prog.specs.Static.{is_static_code}
 use Rattle.guarded_ssa.specs.declared.liveness.Plan.{Plan}
 use Rattle.guarded_ssa.specs.declared.slots.Slot.{Slot}
 use Rattle.guarded_ssa.specs.declared.forms.Event.{Event}
@@ -122,5 +123,5 @@ pub record Passes (until : List ℕ) (code : Listing) (place line function : ℕ
 pub record Visits (until : List ℕ) (code : Listing) (place : ℕ) (i : Instruction) (d e : List Node) (p q : Pass) : Type 0 where
   pub within : PassIn e code q
   pub size : suc (length q.pending.items) ≡ length p.pending.items
-  pub goes : (v : ℕ → ℕ) (rest : List Instruction) → Covers (length code.registers) until (suc place) rest
+  pub goes : (v : ℕ → ℕ) (rest : List Instruction) → is_static_code (i ∷ rest) ≡ true → Covers (length code.registers) until (suc place) rest
       → seen v e q.events.items ++ told v (length code.instructions) (suc place) rest (arrivals v e q.trees code q.pending.items) ≡ seen v d p.events.items ++ told v (length code.instructions) place (i ∷ rest) (arrivals v d p.trees code p.pending.items)

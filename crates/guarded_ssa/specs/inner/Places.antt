@@ -47,7 +47,7 @@ breaks (Some c) line f = stopped (Broken c line f) ∷ []
 -- ---- one instruction, reached with w
 
 module _ (v : ℕ → ℕ) (apart : ℕ) where
-  -- what an operation at a place tells; a call and a return, which unrolled code doesn't have, block
+  -- what an operation at a place tells, in code without operations on pointers; a call and a return, which unrolled code doesn't have, block
   abbrev pub tells : (place line function : ℕ) → Operation → Memory → List Seen
   tells place line f (operations.Check c) m = breaks (check_class c m) line f
   tells place line f (operations.Assert a) m = if register m a == 0 then stopped (Broken classes.Assertion line f) ∷ [] else []

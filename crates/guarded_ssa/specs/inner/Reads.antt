@@ -8,7 +8,7 @@ use Rattle.goto_prog.specs.declared.code.Operation.TheVariants as operations
 use Rattle.goto_prog.specs.declared.code.Instruction.{Instruction}
 use Rattle.goto_prog.specs.Meaning.{Memory, register}
 
--- ---- the registers that are read, two at most
+-- ---- the registers that are read, two at most, by code without operations on pointers
 
 abbrev pub first_checked : Condition → Option ℕ
 first_checked (checks.Divisor b) = Some b
@@ -18,6 +18,7 @@ first_checked (checks.Negation t a) = Some a
 first_checked (checks.Count t u count) = Some count
 first_checked (checks.LeftShift t u a count) = Some a
 first_checked (checks.Returned a) = Some a
+first_checked _ = None
 
 abbrev pub second_checked : Condition → Option ℕ
 second_checked (checks.Divisor b) = None
@@ -27,6 +28,7 @@ second_checked (checks.Negation t a) = None
 second_checked (checks.Count t u count) = None
 second_checked (checks.LeftShift t u a count) = Some count
 second_checked (checks.Returned a) = None
+second_checked _ = None
 
 abbrev pub first_read : Operation → Option ℕ
 first_read (operations.Constant r bits) = None
@@ -53,6 +55,7 @@ first_read (operations.Fail class) = None
 first_read (operations.Use a) = None
 first_read (operations.Call f first count into r) = None
 first_read (operations.Return v) = None
+first_read _ = None
 
 abbrev pub second_read : Operation → Option ℕ
 second_read (operations.Constant r bits) = None
@@ -79,6 +82,7 @@ second_read (operations.Fail class) = None
 second_read (operations.Use a) = None
 second_read (operations.Call f first count into r) = None
 second_read (operations.Return v) = None
+second_read _ = None
 
 -- ---- the block whose bytes are read
 
@@ -107,6 +111,7 @@ block_read (operations.Fail class) = None
 block_read (operations.Use a) = None
 block_read (operations.Call f first count into r) = None
 block_read (operations.Return v) = None
+block_read _ = None
 
 -- ---- `until` gives for each register, and behind them for each block, the place behind its last read
 

@@ -54,3 +54,7 @@ class_of (checks.Negation t a) = classes.Overflow
 class_of (checks.Count t u count) = classes.Shift
 class_of (checks.LeftShift t u a count) = classes.Shift
 class_of (checks.Returned a) = classes.Return
+class_of (checks.Within p i t n size class) = class
+class_of (checks.SameObject p q) = classes.Pointer
+class_of (checks.Inside p count whole) = classes.Bounds
+class_of (checks.AtMost a b most) = classes.MallocLimit

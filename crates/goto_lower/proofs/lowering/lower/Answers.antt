@@ -7,11 +7,13 @@ use Rattle.actions.specs.Behaviour.{Thread}
 use Rattle.c_meaning.specs.Source.{main_number, source_thread}
 use Rattle.goto_prog.specs.Nodes.{Routine, view_procedure, view_procedures, routines_fit}
 use Rattle.goto_prog.specs.Structured.{function_thread}
-use Rattle.goto_prog.specs.GotoThreads.{strict_thread}
+use Rattle.goto_prog.specs.GotoThreads.{GotoFile, strict_thread}
 use Rattle.goto_prog.specs.Same.{DoSame}
+use Rattle.goto_prog.specs.Static.{are_static}
 use Rattle.lowered_code.specs.Lowered.{function_codes}
 use Rattle.lowered_code.proofs.SameThread.{main_below, codes_length, same_thread}
 use Rattle.lowered_code.proofs.CodeFits.{codes_fit}
+use Rattle.lowered_code.proofs.StaticCode.{codes_static}
 use Rattle.goto_lower.proofs.lowering.lower.Goals as goal
 
 pub overflow_cast-main : goal.overflow_cast-main
@@ -38,6 +40,13 @@ new-requires c =
       within = omega (arith, main, below, made, ap length codes, codes_length 0 (view_functions file.functions));
       fits = subst (λ (rs : List Routine). routines_fit rs ≡ true) (sym codes) (codes_fit (view_core file) c.requires.plain typed);
     }
+
+pub returns-clause-plain : goal.returns-clause-plain
+returns-clause-plain c =
+    let file = c.args.file.now in
+    let same = c.functions-functions.ensures.is ∙ ap (λ (f : CoreFile). f.functions) c.core-core.ensures.is in
+    let codes = ap (λ (g : GotoFile). view_procedures g.functions) c.new.ensures ∙ c.in_ok-procedures.ensures ∙ ap (λ (fs : List Function). function_codes 0 (view_functions fs)) same in
+    subst (λ (rs : List Routine). are_static rs ≡ true) (sym codes) (codes_static 0 (view_functions file.functions))
 
 pub returns-clause-same : goal.returns-clause-same
 returns-clause-same c =

@@ -4,7 +4,7 @@ use Rattle.word_dag.proofs.Grown.{extends_more}
 use Rattle.goto_prog.specs.declared.code.Instruction.{Instruction}
 use Rattle.goto_prog.specs.declared.code.Operation.TheVariants as operations
 use Rattle.goto_prog.specs.CodeThread.{first_memory}
-use Rattle.guarded_ssa.proofs.Visiting.{started, start_size, fits_in, visits_own, visited, visited_none, visited_all}
+use Rattle.guarded_ssa.proofs.Visiting.{started, start_size, fits_in, visits_own, visited, visited_none, visited_all, static_in}
 use Rattle.guarded_ssa.proofs.forming.events_of.Goals as goal
 
 pub loop-place-init : goal.loop-place-init
@@ -20,6 +20,9 @@ loop-place-init c =
 pub visit-requires-clause-fits : goal.visit-requires-clause-fits
 visit-requires-clause-fits c = fits_in c.args.code.now _ _ _ _ c.in_ok-plan.ensures.code c.instructions-instructions.ensures.is c.instructions-instructions.ensures.fits c.loop-place-test.true
 
+pub visit-requires-clause-plain : goal.visit-requires-clause-plain
+visit-requires-clause-plain c = static_in c.args.code.now _ _ _ c.instructions-instructions.ensures.is c.requires c.loop-place-test.true
+
 pub loop-place-preserved : goal.loop-place-preserved
 loop-place-preserved c =
     let z : Instruction = record { line = 0; function = 0; operation = operations.Constant 0 0 } in
@@ -30,7 +33,7 @@ loop-place-preserved c =
       within = visits.within;
       size = omega (arith, visits.size, c.loop-place.invariant.size);
       goes = visited c.in_ok-plan.plan.until.items c.args.code.now c.loop-place.place z (λ v. Some (first_memory c.args.code.now) ∷ replicate (length c.args.code.now.instructions) None) c.loop-place.dag c.visit.new.dag c.loop-place.pass c.visit.new.self
-          (subst (λ (xs : List Instruction). c.loop-place.place < length xs) c.instructions-instructions.ensures.is c.loop-place-test.true) c.in_ok-plan.ensures.covers visits c.loop-place.invariant.goes;
+          (subst (λ (xs : List Instruction). c.loop-place.place < length xs) c.instructions-instructions.ensures.is c.loop-place-test.true) c.requires c.in_ok-plan.ensures.covers visits c.loop-place.invariant.goes;
     }
 
 pub returns-clause-told : goal.returns-clause-told

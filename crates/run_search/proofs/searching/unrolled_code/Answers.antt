@@ -1,5 +1,6 @@
-use Rattle.std.proofs.Common.{◌∙◌}
+use Rattle.std.proofs.Common.{sym, ◌∙◌, subst}
 use Rattle.core_tree.specs.Trees.{view_core}
+use Rattle.guarded_ssa.specs.Accesses.{AreObjects}
 use Rattle.run_search.proofs.FirstStores.{storable}
 use Rattle.run_search.proofs.StartsNone.{none_start}
 use Rattle.run_search.proofs.searching.unrolled_code.Goals as goal
@@ -13,3 +14,9 @@ returns-in-Ok-clause-same c =
 pub returns-in-Ok-clause-store : goal.returns-in-Ok-clause-store
 returns-in-Ok-clause-store c =
     c.in-Ok.ensures.store ∙ c.in_ok-checked.ensures.store ∙ c.in_ok-lowered.ensures.store (storable (view_core c.args.file.now) c.args.bounds.now c.in-Ok.ensures.within)
+
+pub returns-in-Ok-clause-objects : goal.returns-in-Ok-clause-objects
+returns-in-Ok-clause-objects c =
+    subst AreObjects
+    (sym (c.in-Ok.ensures.store ∙ c.in_ok-checked.ensures.store ∙ c.in_ok-lowered.ensures.store (storable (view_core c.args.file.now) c.args.bounds.now c.in-Ok.ensures.within)))
+    c.prove_objects.ensures

@@ -1,21 +1,25 @@
+use Rattle.std.proofs.Common.{◌≡◌, ◌+◌, ◌*◌, sym, ap, subst, ◌∙◌}
+use Rattle.c_values.specs.Variables.{low_bytes, put_bytes, drawn_count}
+use Rattle.actions.specs.Behaviour.{Behaviour, after}
+use Rattle.goto_prog.specs.Meaning.{Given, with_blocks, first_count}
+use Rattle.goto_prog.specs.Threads.{Calls}
 use Rattle.goto_prog.specs.ProgramViews.{bounded_by}
-use Rattle.goto_prog.specs.Walking.{place_total, next_place}
-use Rattle.goto_prog.proofs.WalkFits.{draw_into}
-use Rattle.goto_prog.proofs.WalkAnswers.{word_fits, shape_of_draw, takes_draw}
+use Rattle.goto_prog.specs.Walking.{Activation, does_on}
+use Rattle.goto_prog.proofs.Exchanges.{word_taken}
+use Rattle.goto_prog.proofs.WalkAnswers.{takes_word}
 use Rattle.goto_prog.proofs.activation.Activation.receive_word.Goals as goal
-
-pub put-requires-clause-into : goal.put-requires-clause-into
-put-requires-clause-into c =
-    let a = c.args.self.now in
-    draw_into a.working.types a.working.sizes (place_total (next_place a.place)) c.args.i.operation c.requires.fits c.args.into c.args.bits c.requires.is
-
-pub put-requires-clause-bits : goal.put-requires-clause-bits
-put-requires-clause-bits c =
-    let a = c.args.self.now in
-    let shape = shape_of_draw (bounded_by c.args.program.now) a c.args.i c.requires.found c.args.answer.now c.requires.allowed c.args.into c.args.bits c.requires.is in
-    rw c.word_of.ensures (word_fits a.working.types a.working.sizes (place_total (next_place a.place)) c.args.i.operation c.args.into c.args.bits c.args.answer.now c.requires.fits c.requires.is shape)
 
 pub returns : goal.returns
 returns c =
-    rw c.advance.ensures (rw c.put.ensures (rw c.word_of.ensures
-    (takes_draw (bounded_by c.args.program.now) c.args.self.now c.args.i c.requires.found c.args.answer.now c.requires.allowed c.args.into c.args.bits c.requires.is)))
+    let b = bounded_by c.args.program.now in
+    let a = c.args.self.now in
+    let m = a.working.memory in
+    let k = c.args.into.0 in
+    let q = c.args.into.1 in
+    let size = first_count m k q in
+    let new : c.fill_word.new.self ≡ record a { working = record a.working { memory = word_taken m k size c.args.words c.args.answer.now } } =
+    c.fill_word.ensures.is
+    ∙ ap (λ bits. record a { working = record a.working { memory = with_blocks m (put_bytes m.blocks k (8 * c.args.words) (low_bytes (drawn_count size (8 * c.args.words)) bits)) } }) c.word_of.ensures in
+    let same = sym (ap (λ (x : Activation). first_count x.working.memory k q) new) ∙ c.fill_word.ensures.same in
+    subst (λ (x : Activation). (calls : Calls) → (hands : Given → Behaviour) → does_on b calls hands (c.args.words + 1) x ≡ after (does_on b calls hands c.args.words a) c.args.answer.now) (sym new)
+    (takes_word b a c.args.i c.requires.found c.args.answer.now c.args.words c.requires.allowed k q c.requires.is c.requires.more same)

@@ -1,5 +1,4 @@
 use Rattle.goto_prog.proofs.Places.{landed_more}
-use Rattle.goto_prog.proofs.WalkSteps.{stops_draw}
 use Rattle.goto_prog.proofs.cursor.Cursor.jump.Goals as goal
 
 pub loop-preserved : goal.loop-preserved

@@ -1,8 +1,8 @@
 use Rattle.std.proofs.Common.{◌≡◌, subst}
 use Rattle.actions.specs.Behaviour.{started}
-use Rattle.goto_prog.specs.Running.{Running, thread_of}
+use Rattle.goto_prog.specs.Running.{Flowing, flow_thread}
 use Rattle.goto_prog.proofs.machines.UnrolledThreadMachine.start.Goals as goal
 
 pub returns : goal.returns
 returns c =
-    subst (λ (r : Running). thread_of c.in_ok-started.field-0 ≡ started (thread_of r) c.args.function c.args._v.bits) c.self.view_is (c.in_ok-started.ensures c.args._v.bits)
+    subst (λ (r : Flowing). flow_thread c.in_ok-started.field-0 ≡ started (flow_thread r) c.args.function c.args._v.bits) c.self.view_is (c.in_ok-started.ensures c.args._v.bits)
