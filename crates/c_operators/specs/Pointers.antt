@@ -1,31 +1,30 @@
 -- What an operator makes of typed operands, pointers among them, or the lowest rule that they break (C11 6.3.2, 6.5). A value
 -- stands here with its C type: below a pointer is a number of 64 bits.
-use Rattle.std.specs.Prelude.{ℕ, ℤ, pos, negsuc, zero, suc, ◌+◌, ◌==◌, ◌%◌, ◌^◌, Bool, true, false, not, ◌||◌, ◌&&◌, List, [], ◌∷◌, slice_get, Option, Some, None, Result, Ok, Err, if◌then◌else◌}
+use Rattle.std.specs.Prelude.{ℕ, ℤ, pos, negsuc, zero, suc, ◌+◌, ◌==◌, ◌%◌, ◌^◌, Bool, true, false, not, ◌||◌, ◌&&◌, List, Option, Some, None, Result, Ok, Err, Box, if◌then◌else◌}
+use Rattle.std.specs.Global.{Global}
 use Rattle.c_tree.specs.declared.expr.BinaryOp.{BinaryOp}
 use Rattle.c_tree.specs.declared.expr.BinaryOp.TheVariants as binaries
 use Rattle.c_types.specs.declared.integers.IntegerType.{IntegerType}
 use Rattle.c_types.specs.declared.integers.IntegerType.TheVariants as types
-use Rattle.c_types.specs.declared.types.ValueType.TheVariants.{Void, Integer}
-use Rattle.c_types.specs.Integers.{bytes, promoted, common_type}
+use Rattle.c_types.specs.Integers.{promoted, common_type}
 use Rattle.c_types.specs.Types.{CType, Completed}
 use Rattle.c_types.specs.Types as ctypes
 use Rattle.c_types.specs.Types.{view as view_type}
-use Rattle.c_types.specs.Layouts.{is_complete, size_of}
+use Rattle.c_types.specs.Layouts.{size_of}
+use Rattle.core_tree.specs.declared.expression.CoreExpr.{CoreExpr}
 use Rattle.core_tree.specs.declared.operators.Comparison.{Comparison}
 use Rattle.core_tree.specs.declared.operators.Comparison.TheVariants as comparisons
 use Rattle.core_tree.specs.declared.operators.LogicalOperator.{LogicalOperator}
 use Rattle.core_tree.specs.declared.operators.LogicalOperator.TheVariants as logicals
-use Rattle.core_tree.specs.declared.operators.ArithmeticOperator.TheVariants as arithmetics
 use Rattle.core_tree.specs.declared.operators.SignOperator.{SignOperator}
-use Rattle.core_tree.specs.declared.operators.SignOperator.TheVariants as signs
 use Rattle.core_tree.specs.declared.operators.StepOperator.{StepOperator}
 use Rattle.core_tree.specs.declared.operators.StepOperator.TheVariants as steps
-use Rattle.core_tree.specs.Trees.{Place, variable_at, object_at, literal_at, pointed, arrow, member, element, subscript, Expression, Structure, Arguments, no_argument, number_argument, structure_argument, view, view_place, view_structure}
+use Rattle.core_tree.specs.Trees.{Place, variable_at, object_at, literal_at, pointed, arrow, member, element, subscript, Expression, Structure, view, view_place, view_structure}
 use Rattle.core_tree.specs.Trees as cores
-use Rattle.core_tree.specs.Typed.{Sizes, object_size}
+use Rattle.core_tree.specs.Typed.{object_size}
 use Rattle.c_values.specs.Numbers.{TypedNumber}
 use Rattle.c_scope.specs.Members.{found, members_in, part_at}
-use Rattle.c_scope.specs.Scopes.{Named, ObjectEntry, FunctionType, Callable, Scoped, object_at as entry_at, is_incomplete, all_sizes}
+use Rattle.c_scope.specs.Scopes.{Named, ObjectEntry, FunctionType, Scoped, is_incomplete, all_sizes}
 use Rattle.c_scope.specs.Functions.{same_ctype, type_place}
 use Rattle.c_scope.specs.Types.{type_size}
 use Rattle.c_scope.specs.Faults.{◌>>=◌, required}
@@ -231,9 +230,13 @@ is_null (place t constant p) = false
 is_null (structure t a) = false
 is_null (designator f e) = false
 
--- a pointer to one may take one to the other: they are one type, or one is void, and const isn't lost
+-- a pointer to objects beside one to void
+abbrev pub with_void : CType → CType → Bool
+with_void t u = (is_void t && not (is_function u)) || (is_void u && not (is_function t))
+
+-- a pointer to one may take one to the other: they are one type, or one is to void and the other to objects, and const isn't lost
 abbrev pub may_point : CType → Bool → CType → Bool → Bool
-may_point t constant u other = (same_ctype t u || is_void t || is_void u) && (constant || not other)
+may_point t constant u other = (same_ctype t u || with_void t u) && (constant || not other)
 
 -- the number that an operand gives an object of integer type: one of arithmetic type, or to _Bool any scalar
 abbrev pub integer_from : IntegerType → Operand → Option Expression
@@ -345,9 +348,12 @@ abbrev pub function_node : Scoped → ℕ → FunctionType → OperandNode
 function_node s line f = Ok (designator (type_place s.functions.types f) (function_address line))
 
 -- A string is an array of char, with the zero behind it (C11 6.4.5p6): an object of the file, or within `sizeof` none.
-abbrev pub string_node : Bool → (line literal length : ℕ) → OperandNode
-string_node false line k n = Ok (place (ctypes.array (ctypes.integer types.Char) (suc n)) false (literal_at line k))
-string_node true line k n = Ok (place (ctypes.array (ctypes.integer types.Char) (suc n)) false (pointed line (cores.constant line types.UnsignedLong 0)))
+abbrev pub string_place : Bool → (line literal : ℕ) → Place
+string_place false line k = literal_at line k
+string_place true line k = pointed line (cores.constant line types.UnsignedLong 0)
+
+abbrev pub string_node : Bool → (line literal length : ℕ) → Operand
+string_node within line k n = place (ctypes.array (ctypes.integer types.Char) (suc n)) false (string_place within line k)
 
 -- ---- `&` and `*` (C11 6.5.3.2)
 
@@ -384,8 +390,8 @@ element_at (Some whole) line p index size swapped = element line p index size wh
 element_at None line p index size swapped = subscript line (cores.address (place_line p) p) index size swapped
 
 -- of an array of these elements
-abbrev pub element_node : Scoped → ℕ → CType → Bool → Place → Expression → Bool → OperandNode
-element_node s line t constant p index swapped = Ok (place t constant (element_at (object_size (all_sizes s) p) line p index (size_of s.records.done t) swapped))
+abbrev pub element_node : Scoped → ℕ → CType → Bool → Place → Expression → Bool → Operand
+element_node s line t constant p index swapped = place t constant (element_at (object_size (all_sizes s) p) line p index (size_of s.records.done t) swapped)
 
 -- rule 3: a pointer to a complete object
 abbrev pub subscript_by : List Completed → ℕ → Kind → Expression → Expression → Bool → OperandNode
@@ -394,7 +400,7 @@ subscript_by done line (address t c) a index swapped = pointee_size done t >>= �
 subscript_by done line neither a index swapped = Err 7
 
 abbrev pub subscript_place : Scoped → ℕ → CType → Bool → Place → Expression → Bool → OperandNode
-subscript_place s line (ctypes.array t n) constant p index swapped = element_node s line t constant p index swapped
+subscript_place s line (ctypes.array t n) constant p index swapped = Ok (element_node s line t constant p index swapped)
 subscript_place s line t constant p index swapped = do
   x ← used_place s.records.done t constant p
   a ← valued x
@@ -410,25 +416,29 @@ subscript_base s within line (structure t a) index swapped = do
   subscript_by s.records.done line (kind_of (type_in x)) e index swapped
 subscript_base s within line (designator f e) index swapped = subscript_by s.records.done line (address (ctypes.function f) false) e index swapped
 
--- an operand is used as an integer
-abbrev pub index_of : List Completed → Operand → Option Expression
+-- the number of an operand that is used as an integer, or the operand as it is
+abbrev pub index_of : List Completed → Operand → Result Expression Operand
 index_of done x = by (used done false x >>= integral 7) where
-  by : Result (IntegerType × Expression) ℕ → Option Expression
-  by (Ok i) = Some i.1
-  by (Err rule) = None
+  by : Result (IntegerType × Expression) ℕ → Result Expression Operand
+  by (Ok i) = Ok i.1
+  by (Err rule) = Err x
+
+abbrev pub view_index : Result (Box CoreExpr Global) TypedOperand → Result Expression Operand
+view_index (Ok e) = Ok (view e.value)
+view_index (Err x) = Err (view_typed x)
 
 -- one of both is an integer; where the left one is, it is evaluated first all the same
-abbrev pub subscript_turned : Scoped → Bool → ℕ → Operand → Option Expression → OperandNode
-subscript_turned s within line y None = Err 7
-subscript_turned s within line y (Some index) = subscript_base s within line y index true
+abbrev pub subscript_turned : Scoped → Bool → ℕ → Operand → Result Expression Operand → OperandNode
+subscript_turned s within line y (Err x) = Err 7
+subscript_turned s within line y (Ok index) = subscript_base s within line y index true
 
-abbrev pub subscript_in : Scoped → Bool → ℕ → Operand → Operand → Option Expression → OperandNode
-subscript_in s within line x y (Some index) = subscript_base s within line x index false
-subscript_in s within line x y None = subscript_turned s within line y (index_of s.records.done x)
+abbrev pub subscript_in : Scoped → Bool → ℕ → Operand → Result Expression Operand → OperandNode
+subscript_in s within line x (Ok index) = subscript_base s within line x index false
+subscript_in s within line x (Err y) = subscript_turned s within line y (index_of s.records.done x)
 
 -- of two operands that aren't used so far
 abbrev pub subscript_node : Scoped → Bool → ℕ → Operand → Operand → OperandNode
-subscript_node s within line x y = subscript_in s within line x y (index_of s.records.done y)
+subscript_node s within line x y = subscript_in s within line x (index_of s.records.done y)
 
 -- ---- members (C11 6.5.2.3)
 
@@ -606,10 +616,6 @@ relation_node line op c neither l a b = Err 7
 relation_node line op c (number t) neither a b = Err 7
 relation_node line op c (address t k) neither a b = Err 7
 
--- a pointer to objects beside one to void
-abbrev pub with_void : CType → CType → Bool
-with_void t u = (is_void t && not (is_function u)) || (is_void u && not (is_function t))
-
 -- 64 bits are compared
 abbrev pub equal_pointers : ℕ → Comparison → Expression → Expression → Operand
 equal_pointers line c a b = plain int_type (cores.compare line c (as_type types.UnsignedLong a) (as_type types.UnsignedLong b))
@@ -749,19 +755,41 @@ assign_node s line (designator f e) y = Err 9
 
 -- ---- compound assignments (C11 6.5.16.2)
 
-abbrev pub way_of : BinaryOp → Option (ℕ → ℤ)
-way_of binaries.Add = Some forth
-way_of binaries.Subtract = Some back
-way_of op = None
+-- forth or back
+abbrev pub way_of : BinaryOp → Option StepOperator
+way_of binaries.LogicalOr = None
+way_of binaries.LogicalAnd = None
+way_of binaries.Or = None
+way_of binaries.Xor = None
+way_of binaries.And = None
+way_of binaries.Equal = None
+way_of binaries.NotEqual = None
+way_of binaries.Less = None
+way_of binaries.Greater = None
+way_of binaries.LessEqual = None
+way_of binaries.GreaterEqual = None
+way_of binaries.ShiftLeft = None
+way_of binaries.ShiftRight = None
+way_of binaries.Add = Some steps.Increment
+way_of binaries.Subtract = Some steps.Decrement
+way_of binaries.Multiply = None
+way_of binaries.Divide = None
+way_of binaries.Remainder = None
+
+-- what a pointer to this type moves by for each of a number that is added to it or subtracted from it, and that number
+abbrev pub moved_by : List Completed → BinaryOp → CType → Operand → Result (ℤ × Expression) ℕ
+moved_by done op t y = do
+  way ← required 7 (way_of op)
+  i ← integral 7 y
+  step ← stepped done t (step_size way)
+  Ok (step, i.1)
 
 -- a pointer plus or minus a number
-abbrev pub update_pointer : List Completed → ℕ → Option (ℕ → ℤ) → CType → Bool → Bool → Place → Operand → OperandNode
-update_pointer done line None t c constant p y = Err 7
-update_pointer done line (Some way) t c constant p y = do
-  i ← integral 7 y
-  step ← stepped done t way
+abbrev pub update_pointer : List Completed → ℕ → BinaryOp → CType → Bool → Bool → Place → Operand → OperandNode
+update_pointer done line op t c constant p y = do
+  moved ← moved_by done op t y
   q ← target constant p
-  Ok (plain (ctypes.pointer t c) (cores.pointer_update line q step i.1))
+  Ok (plain (ctypes.pointer t c) (cores.pointer_update line q moved.0 moved.1))
 
 abbrev pub update_number : ℕ → BinaryOp → IntegerType → Bool → Place → Operand → OperandNode
 update_number line op t constant p y = do
@@ -776,7 +804,7 @@ update_place done line op ctypes.void constant p y = Err 7
 update_place done line op (ctypes.integer t) constant p y = update_number line op t constant p y
 update_place done line op (ctypes.aggregate r) constant p y = Err 7
 update_place done line op (ctypes.array inner n) constant p y = Err 9
-update_place done line op (ctypes.pointer t c) constant p y = update_pointer done line (way_of op) t c constant p y
+update_place done line op (ctypes.pointer t c) constant p y = update_pointer done line op t c constant p y
 update_place done line op (ctypes.function f) constant p y = Err 7
 
 -- a value that would be changed, were it a place
@@ -785,11 +813,7 @@ update_value done op (number t) y = do
   operator ← required 7 (operator_of op)
   i ← integral 7 y
   Err 9
-update_value done op (address t c) y = do
-  way ← required 7 (way_of op)
-  i ← integral 7 y
-  size ← pointee_size done t
-  Err 9
+update_value done op (address t c) y = moved_by done op t y >>= λ moved. Err 9
 update_value done op neither y = Err 7
 
 abbrev pub update_node : List Completed → ℕ → BinaryOp → Operand → Operand → OperandNode
@@ -813,166 +837,6 @@ comma_by line a (designator f e) = Err 7
 -- of used operands
 abbrev pub comma_operand : ℕ → Operand → Operand → OperandNode
 comma_operand line x y = dropped x >>= λ a. comma_by line a y
-
--- ---- calls (C11 6.5.2.2)
-
--- an argument in front of others, converted to its parameter's type as by assignment
-abbrev pub argument_in : CType → Operand → Result (Arguments → Arguments) ℕ
-argument_in (ctypes.aggregate p) x = required 8 (record_from p x) >>= λ a. Ok (structure_argument a)
-argument_in t x = assigned t x >>= λ e. Ok (number_argument e)
-
--- those of the parameters, and the arguments behind them; rule 10: there are as many
-abbrev pub arguments_in : List CType → List Operand → Result (Arguments × List Operand) ℕ
-arguments_in [] xs = Ok (no_argument, xs)
-arguments_in (t ∷ ts) [] = Err 10
-arguments_in (t ∷ ts) (x ∷ xs) = do
-  a ← argument_in t x
-  rest ← arguments_in ts xs
-  Ok (a rest.0, rest.1)
-
--- rule 10: only an ellipsis takes more; rule 8: these are scalar
-abbrev pub extra_arguments : Bool → List Operand → Result (List Expression) ℕ
-extra_arguments ellipsis [] = Ok []
-extra_arguments false (x ∷ xs) = Err 10
-extra_arguments true (x ∷ xs) = do
-  e ← scalar 8 x
-  es ← extra_arguments true xs
-  Ok (e ∷ es)
-
--- rule 3: what a call gives is void or complete (C11 6.5.2.2p1)
-abbrev pub given_size : List Completed → CType → Result ℕ ℕ
-given_size done ctypes.void = Ok 0
-given_size done t = type_size done t
-
--- a call of the function with a number, which gives this type; a value is used where it is wanted
-abbrev pub given_operand : List Completed → (line f : ℕ) → Bool → CType → Arguments → Operand
-given_operand done line f wanted ctypes.void args = plain ctypes.void (cores.call line f false Void args)
-given_operand done line f wanted (ctypes.integer t) args = plain (ctypes.integer t) (cores.call line f wanted (Integer t) args)
-given_operand done line f wanted (ctypes.aggregate p) args = structure (ctypes.aggregate p) (cores.give line f wanted (size_of done (ctypes.aggregate p)) args)
-given_operand done line f wanted (ctypes.array inner n) args = structure (ctypes.array inner n) (cores.give line f wanted (size_of done (ctypes.array inner n)) args)
-given_operand done line f wanted (ctypes.pointer t c) args = plain (ctypes.pointer t c) (cores.call line f wanted (Integer types.UnsignedLong) args)
-given_operand done line f wanted (ctypes.function g) args = structure (ctypes.function g) (cores.give line f wanted 0 args)
-
--- what is evaluated before an operand
-abbrev pub behind : ℕ → List Expression → Operand → OperandNode
-behind line [] x = Ok x
-behind line (e ∷ es) x = behind line es x >>= λ y. comma_by line e y
-
-abbrev pub function_call : List Completed → (line f : ℕ) → Bool → FunctionType → List Operand → OperandNode
-function_call done line f wanted t xs = do
-  size ← given_size done t.gives.type
-  args ← arguments_in t.parameters xs
-  es ← extra_arguments t.ellipsis args.1
-  behind line es (given_operand done line f wanted t.gives.type args.0)
-
--- ---- calls by a pointer to a function: the profile refuses each file that has one
-
--- what evaluates arguments
-abbrev pub evaluated : Arguments → List Expression
-evaluated no_argument = []
-evaluated (number_argument e rest) = e ∷ evaluated rest
-evaluated (structure_argument a rest) = cores.discard_structure a ∷ evaluated rest
-
--- something of this type
-abbrev pub some_value : List Completed → ℕ → CType → Operand
-some_value done line ctypes.void = plain ctypes.void (cores.discard line (cores.constant line types.Int 0))
-some_value done line (ctypes.integer t) = plain (ctypes.integer t) (cores.constant line t 0)
-some_value done line (ctypes.aggregate p) = structure (ctypes.aggregate p) (cores.list line (size_of done (ctypes.aggregate p)) cores.no_part)
-some_value done line (ctypes.array inner n) = structure (ctypes.array inner n) (cores.list line (size_of done (ctypes.array inner n)) cores.no_part)
-some_value done line (ctypes.pointer t c) = plain (ctypes.pointer t c) (cores.constant line types.UnsignedLong 0)
-some_value done line (ctypes.function f) = plain ctypes.void (cores.discard line (cores.constant line types.Int 0))
-
-abbrev pub called_by_type : List Completed → ℕ → Expression → Option FunctionType → List Operand → OperandNode
-called_by_type done line e None xs = Err 10
-called_by_type done line e (Some t) xs = do
-  size ← given_size done t.gives.type
-  args ← arguments_in t.parameters xs
-  es ← extra_arguments t.ellipsis args.1
-  inner ← behind line es (some_value done line t.gives.type)
-  whole ← behind line (evaluated args.0) inner
-  comma_by line e whole
-
-abbrev pub function_place : CType → Option ℕ
-function_place ctypes.void = None
-function_place (ctypes.integer t) = None
-function_place (ctypes.aggregate p) = None
-function_place (ctypes.array inner n) = None
-function_place (ctypes.pointer (ctypes.function f) c) = Some f
-function_place (ctypes.pointer t c) = None
-function_place (ctypes.function f) = None
-
-abbrev pub type_at : List FunctionType → Option ℕ → Option FunctionType
-type_at types None = None
-type_at types (Some f) = slice_get types f
-
--- rule 10: a callee that isn't a name of a function is a pointer to one
-abbrev pub pointer_call : Scoped → ℕ → Operand → List Operand → OperandNode
-pointer_call s line (value t null e) xs = called_by_type s.records.done line e (type_at s.functions.types (function_place t)) xs
-pointer_call s line (place t constant p) xs = Err 10
-pointer_call s line (structure t a) xs = Err 10
-pointer_call s line (designator f e) xs = Err 10
-
--- ---- calls of built-in functions
-
--- the one argument of a scalar type
-abbrev pub one_scalar : List Operand → Result Expression ℕ
-one_scalar [] = Err 10
-one_scalar (x ∷ []) = scalar 8 x
-one_scalar (x ∷ y ∷ rest) = scalar 8 x >>= λ e. Err 10
-
-abbrev pub no_arguments : List Operand → Operand → OperandNode
-no_arguments [] x = Ok x
-no_arguments (y ∷ rest) x = Err 10
-
--- what a call makes of its one argument, or of two, each converted as by assignment
-abbrev pub of_one : CType → (Expression → Operand) → List Operand → OperandNode
-of_one t node [] = Err 10
-of_one t node (x ∷ []) = assigned t x >>= λ e. Ok (node e)
-of_one t node (x ∷ y ∷ rest) = assigned t x >>= λ e. Err 10
-
-abbrev pub of_two : CType → CType → (Expression → Expression → Operand) → List Operand → OperandNode
-of_two t u node [] = Err 10
-of_two t u node (x ∷ xs) = assigned t x >>= λ a. of_one u (λ b. node a b) xs
-
-abbrev pub unsigned_long : CType
-unsigned_long = ctypes.integer types.UnsignedLong
-
-abbrev pub void_pointer : CType
-void_pointer = ctypes.pointer ctypes.void false
-
--- a pointer to characters that are const
-abbrev pub text_type : CType
-text_type = ctypes.pointer (ctypes.integer types.Char) true
-
-abbrev pub assertion_call : ℕ → List Operand → OperandNode
-assertion_call line xs = one_scalar xs >>= λ e. Ok (plain ctypes.void (cores.assertion line e))
-
-abbrev pub assumption_call : ℕ → List Operand → OperandNode
-assumption_call line xs = one_scalar xs >>= λ e. Ok (plain ctypes.void (cores.assumption line e))
-
-abbrev pub allocation : ℕ → Expression → Operand
-allocation line e = plain void_pointer (cores.allocate line e)
-
-abbrev pub zeroed_allocation : ℕ → Expression → Expression → Operand
-zeroed_allocation line a b = plain void_pointer (cores.allocate_zeroed line a b)
-
--- Both arguments are evaluated, the condition first, before it is asked whether that is 0.
-abbrev pub truth_and_text : ℕ → Expression → Expression → Expression
-truth_and_text line e text = cores.arithmetic line arithmetics.And (cores.is_zero line (cores.is_zero line e)) (cores.comma line (cores.discard line text) (cores.constant line types.Int 1))
-
-abbrev pub checked : ℕ → List Operand → OperandNode
-checked line [] = Err 10
-checked line (x ∷ xs) = do
-  e ← scalar 8 x
-  of_one text_type (λ text. plain ctypes.void (cores.assertion line (truth_and_text line e text))) xs
-
--- the text is evaluated, and then any scalars; the number is drawn
-abbrev pub printed : ℕ → List Operand → OperandNode
-printed line [] = Err 10
-printed line (x ∷ xs) = do
-  text ← assigned text_type x
-  es ← extra_arguments true xs
-  behind line (text ∷ es) (plain int_type (cores.draw line types.Int))
 
 -- ---- what is true of a typed operand
 

@@ -1,21 +1,20 @@
-//! Operators of two or three used operands (C11 6.5.5 to 6.5.15, 6.5.17).
+//! Operators of two used operands (C11 6.5.5 to 6.5.14, 6.5.17).
 
-ghost use Rattle.std.specs.Prelude.{◌≡◌, option_map, IfOk};
-ghost use Rattle.c_types.specs.Types.{view as type_view};
+ghost use Rattle.core_tree.specs.Trees.{view};
 ghost use Rattle.c_scope.specs.Faults.{GivesNode};
-ghost use Rattle.c_operators.specs.Pointers.{view_typed, logical_node, integers_node, with_kinds, add_node, subtract_node, compared_by, related_by, binary_operand, common_pointee, comma_operand};
+ghost use Rattle.c_operators.specs.Pointers.{view_typed, logical_node, integers_node, with_kinds, add_node, subtract_node, compared_by, related_by, binary_operand, comma_by, comma_operand};
 
 use crate::conversions::{integral, is_null, scalar};
 use crate::pointer_operators::{
-    add_node, arithmetic_node, equality_node, relation_node, subtract_node, valued, with_void,
+    add_node, arithmetic_node, equality_node, relation_node, subtract_node, valued,
 };
-use crate::typed_operands::{TypedOperand, dropped};
+use crate::typed_operands::{TypedOperand, dropped, made};
 use c_operands::{in_box, structure_in_box};
-use c_scope::{Broken, same_ctype};
+use c_scope::Broken;
 use c_tree::BinaryOp;
 use c_types::{IntegerType, Layouts, Ty};
 use core_tree::{Comparison, CoreExpr, CoreStructure, LogicalOperator};
-use std::alloc::{AllocError, Global};
+use std::alloc::Global;
 
 fn logical_node(
     alloc: Global,
@@ -159,16 +158,15 @@ pub fn binary_operand(
 
 // ---- `,`
 
-/// What a comma makes of two used operands (C11 6.5.17).
-pub fn comma_operand(
+/// What a comma makes of an expression whose value isn't wanted and a used operand.
+pub fn comma_by(
     alloc: Global,
     line: u32,
-    left: TypedOperand,
+    left: Box<CoreExpr>,
     right: TypedOperand,
 ) -> Result<TypedOperand, Broken>
-    ensures { GivesNode view_typed result (comma_operand line (view_typed left) (view_typed right)) }
+    ensures { GivesNode view_typed result (comma_by line (view left.value) (view_typed right)) }
 {
-    let left = dropped(alloc, left)?;
     match right {
         TypedOperand::Value { type_, value, .. } => {
             let node = CoreExpr::Comma {
@@ -176,11 +174,7 @@ pub fn comma_operand(
                 left,
                 right: value,
             };
-            Ok(TypedOperand::Value {
-                type_,
-                null: false,
-                value: in_box(alloc, node)?,
-            })
+            Ok(made(alloc, type_, node)?)
         }
         TypedOperand::Structure { type_, value } => {
             let node = CoreStructure::Comma {
@@ -199,18 +193,15 @@ pub fn comma_operand(
     }
 }
 
-// ---- `?:`
-
-// What both of two pointers that are no null pointer constants may point to.
-fn common_pointee(to: &Ty, other: &Ty) -> Result<Option<Ty>, AllocError>
-    ensures { IfOk result (λ o. option_map type_view o ≡ common_pointee (type_view to.now) (type_view other.now)) }
+/// What a comma makes of two used operands (C11 6.5.17).
+pub fn comma_operand(
+    alloc: Global,
+    line: u32,
+    left: TypedOperand,
+    right: TypedOperand,
+) -> Result<TypedOperand, Broken>
+    ensures { GivesNode view_typed result (comma_operand line (view_typed left) (view_typed right)) }
 {
-    if same_ctype(to, other) {
-        return Ok(Some(to.copied()?));
-    }
-    if with_void(to, other) {
-        Ok(Some(Ty::Void))
-    } else {
-        Ok(None)
-    }
+    let left = dropped(alloc, left)?;
+    comma_by(alloc, line, left, right)
 }

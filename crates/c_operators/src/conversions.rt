@@ -6,7 +6,7 @@ ghost use Rattle.core_tree.specs.Trees.{view, boxed, view_structure};
 ghost use Rattle.c_scope.specs.Faults.{required, GivesNode};
 ghost use Rattle.c_operators.specs.Pointers.{view_typed, plain, kind_of, is_bool, is_zero_constant, is_null, may_point, assigned, same_record, record_from, integral, scalar, cast_void, cast_pointer, cast_node};
 
-use crate::pointer_operators::valued;
+use crate::pointer_operators::{valued, with_void};
 use crate::typed_operands::{TypedOperand, integer_of, is_void, scalar_of};
 use c_operands::{as_type, constant_of, in_box};
 use c_scope::{Broken, same_ctype};
@@ -62,7 +62,7 @@ pub fn is_null(operand: &TypedOperand) -> bool
 fn may_point(to: &Ty, constant: bool, other: &Ty, fixed: bool) -> bool
     ensures { result ≡ may_point (type_view to.now) constant (type_view other.now) fixed }
 {
-    (same_ctype(to, other) || is_void(to) || is_void(other)) && (constant || !fixed)
+    (same_ctype(to, other) || with_void(to, other)) && (constant || !fixed)
 }
 
 // The number that an operand gives an object of integer type.
@@ -144,7 +144,8 @@ pub fn assigned(alloc: Global, type_: &Ty, operand: TypedOperand) -> Result<Box<
     }
 }
 
-fn same_record(place: u32, type_: &Ty) -> bool
+/// Whether a type is the struct or union at a place of the layouts.
+pub fn same_record(place: u32, type_: &Ty) -> bool
     ensures { result ≡ same_record place (type_view type_.now) }
 {
     match type_ {

@@ -2,33 +2,21 @@
 
 ghost use Rattle.std.specs.Prelude.{◌≡◌, IfOk};
 ghost use Rattle.c_types.specs.Types.{aggregate, view as type_view};
-ghost use Rattle.c_types.specs.Layouts.{size_of};
 ghost use Rattle.core_tree.specs.Trees.{part, view, view_place, view_structure};
 ghost use Rattle.c_scope.specs.Faults.{GivesNode};
 ghost use Rattle.c_operators.specs.Pointers.{view_typed, plain, stepped, step_size, target, kind_of, step_place, step_value, step_node, part_operand, member_named, member_node, arrow_by, arrow_node, put_number, assign_place, assign_record, assign_node};
 
 use crate::conversions::{assigned, record_from};
 use crate::pointer_operators::{step_back, step_forth};
-use crate::typed_operands::{TypedOperand, part_of};
-use c_operands::{bytes_of, in_box, place_in_box, structure_in_box};
+use crate::typed_operands::{TypedOperand, made, part_of};
+use c_operands::{bytes_of, place_in_box, structure_in_box};
 use c_scope::{Broken, Scope, part_at, type_size};
 use c_types::{IntegerType, Layouts, Ty};
 use core_tree::{CoreExpr, CoreStructure, Place, StepOperator};
 use std::alloc::{AllocError, Global};
 
-// A value of this type.
-fn made(alloc: Global, type_: Ty, node: CoreExpr) -> Result<TypedOperand, AllocError>
-    ensures { IfOk result (λ x. view_typed x ≡ plain (type_view type_) (view node)) }
-{
-    Ok(TypedOperand::Value {
-        type_,
-        null: false,
-        value: in_box(alloc, node)?,
-    })
-}
-
-// The place that is changed, which isn't const.
-fn target(constant: bool, place: Box<Place>) -> Result<Box<Place>, Broken>
+/// The place that is changed, which isn't const.
+pub fn target(constant: bool, place: Box<Place>) -> Result<Box<Place>, Broken>
     ensures { GivesNode (λ p. view_place p.value) result (target constant (view_place place.value)) }
 {
     if constant {
@@ -201,8 +189,8 @@ pub fn arrow_node(
 
 // ---- `++` and `--`
 
-// The bytes by which a step moves a pointer to a type.
-fn step_by(operator: StepOperator, to: &Ty, layouts: &Layouts) -> Result<i64, Broken>
+/// The bytes by which a step moves a pointer to a type.
+pub fn step_by(operator: StepOperator, to: &Ty, layouts: &Layouts) -> Result<i64, Broken>
     ensures { GivesNode (λ n. n) result (stepped layouts.now.done (type_view to.now) (step_size operator)) }
 {
     match operator {

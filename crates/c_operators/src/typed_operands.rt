@@ -5,7 +5,7 @@ ghost use Rattle.c_types.specs.Types.{pointer, function as function_at, view as 
 ghost use Rattle.c_types.specs.Layouts.{size_of};
 ghost use Rattle.core_tree.specs.Trees.{read, copy, view, view_place, boxed, view_structure};
 ghost use Rattle.c_scope.specs.Faults.{GivesNode};
-ghost use Rattle.c_operators.specs.Pointers.{view_typed, plain, structure, scalar_of, integer_of, is_void, is_function, place_line, part_of, variable_of, address_of, used_place, no_address, used_structure, used, dropped, address_node, pointed_node, dereference_node};
+ghost use Rattle.c_operators.specs.Pointers.{view_typed, plain, structure, scalar_of, integer_of, is_void, is_function, place_line, part_of, variable_of, address_of, used_place, no_address, used_structure, used, settled, dropped, address_node, pointed_node, dereference_node};
 
 use c_operands::{bytes_of, in_box, place_in_box, structure_in_box};
 use c_scope::{Broken, type_size};
@@ -98,6 +98,22 @@ pub fn place_line(place: &Place) -> u32
     }
 }
 
+/// The variable within which a place lies, none where it lies within an object that has another address.
+pub fn variable_of(place: &Place) -> Option<u32>
+    ensures { result ≡ variable_of (view_place place.now) }
+{
+    match place {
+        Place::Variable { variable, .. } => Some(*variable),
+        Place::Member { place, .. } => variable_of(place),
+        Place::Element { place, .. } => variable_of(place),
+        Place::Object { .. }
+        | Place::Literal { .. }
+        | Place::Pointed { .. }
+        | Place::Arrow { .. }
+        | Place::Subscript { .. } => None,
+    }
+}
+
 // The sum of two offsets in an object. No object has so many bytes that there is none.
 fn added(from: u32, offset: u32) -> Result<u32, AllocError>
     ensures { IfOk result (λ at. at ≡ from + offset) }
@@ -157,6 +173,17 @@ pub fn part_of(
             },
         ),
     }
+}
+
+/// A value of this type that is no null pointer constant.
+pub fn made(alloc: Global, type_: Ty, node: CoreExpr) -> Result<TypedOperand, AllocError>
+    ensures { IfOk result (λ x. view_typed x ≡ plain (type_view type_) (view node)) }
+{
+    Ok(TypedOperand::Value {
+        type_,
+        null: false,
+        value: in_box(alloc, node)?,
+    })
 }
 
 /// The address of a place of this type.
@@ -328,6 +355,17 @@ pub fn used(
         TypedOperand::Designator { type_, address } => {
             Ok(function_pointer(alloc, type_, address)?)
         }
+    }
+}
+
+/// An operand that may be a place: only an array in a value that is no place is used first.
+pub fn settled(alloc: Global, within: bool, operand: TypedOperand) -> Result<TypedOperand, Broken>
+    ensures { GivesNode view_typed result (settled within (view_typed operand)) }
+{
+    match operand {
+        TypedOperand::Structure { type_, value } => used_structure(alloc, within, type_, value),
+        TypedOperand::Value { .. } | TypedOperand::Place { .. } | TypedOperand::Designator { .. } =>
+            { Ok(operand) }
     }
 }
 
