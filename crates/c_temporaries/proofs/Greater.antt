@@ -31,7 +31,10 @@ greater_swapped (x ∷ xs) (y ∷ ys) = let same : max x y ≡ max y x = omega a
 
 -- nothing before others
 pub none_first : (a : Temporaries) → both no_temporaries a ≡ a
-none_first a = let same : max 0 a.zeros ≡ a.zeros = omega arith in λ i. record { zeros = same i; sizes = a.sizes }
+none_first a =
+    let zeros : max 0 a.zeros ≡ a.zeros = omega arith in
+    let heap : max 0 a.heap ≡ a.heap = omega arith in
+    λ i. record { zeros = zeros i; sizes = a.sizes; heap = heap i }
 
 pub same_temporaries : {E : Type 0} (r : Result Temporaries E) (x y : Temporaries) → x ≡ y → IfOk r (λ a. a ≡ x) → IfOk r (λ a. a ≡ y)
 same_temporaries (Ok a) x y same h = h ∙ same

@@ -1,4 +1,4 @@
-//! The blocks that code uses for values on the way: structure values, and numbers of static objects.
+//! The blocks that code uses for values on the way: structure values, numbers of objects, and the bytes of what is allocated.
 
 ghost use Rattle.std.specs.Prelude.{◌≡◌, ◌++◌, ◌∷◌, [], ◌≤◌, length, IfOk, option_map};
 ghost use Rattle.core_tree.specs.Trees.{view, boxed, view_place, view_structure, parts_of, with_part, arguments_of, with_argument, view_statement, items_of, with_item};
@@ -6,19 +6,26 @@ ghost use Rattle.c_types.specs.Integers.{bytes};
 ghost use Rattle.c_meaning.specs.Meaning.{number_type};
 ghost use Rattle.c_temporaries.specs.Temporaries as specs;
 
+use crate::accesses::{Access, access_to, home_in};
 use crate::sizes::{number_type, value_size};
 use c_types::IntegerType;
 use core_tree::{
-    CoreArgument, CoreExpr, CoreItem, CorePart, CoreStatement, CoreStructure, Place, structure_size,
+    CoreArgument, CoreExpr, CoreItem, CorePart, CoreStatement, CoreStructure, Place, Variable,
+    structure_size,
 };
 use std::alloc::{AllocError, Global};
 use std::marker::Model;
 
-/// How many bytes that stay 0, and the sizes of the blocks that are free, the first of which is used first.
+/// As many bytes as may be allocated at once.
+pub const HEAP_BYTES: u32 = 4096;
+
+/// How many bytes that stay 0, the sizes of the blocks that are free, the first of which is used first, and how many bytes
+/// the block has in which objects are made.
 #[derive(Drop)]
 pub struct Temporaries {
     zeros: u32,
     sizes: Vec<u32>,
+    heap: u32,
 }
 
 impl Model for Temporaries {
@@ -26,7 +33,7 @@ impl Model for Temporaries {
 
     ghost Value = { specs.Temporaries };
 
-    ghost view = { λ r. record { zeros = r.zeros; sizes = r.sizes.items } };
+    ghost view = { λ r. record { zeros = r.zeros; sizes = r.sizes.items; heap = r.heap } };
 }
 
 // The greater size at each place, where the others are no more than these.
@@ -68,6 +75,7 @@ impl Temporaries {
         Temporaries {
             zeros: 0,
             sizes: Vec::new(alloc),
+            heap: 0,
         }
     }
 
@@ -78,6 +86,7 @@ impl Temporaries {
         Temporaries {
             zeros: self.zeros.max(other.zeros),
             sizes: greater(self.sizes, other.sizes),
+            heap: self.heap.max(other.heap),
         }
     }
 
@@ -98,6 +107,7 @@ impl Temporaries {
         Ok(Temporaries {
             zeros: self.zeros,
             sizes: all,
+            heap: self.heap,
         })
     }
 
@@ -107,6 +117,21 @@ impl Temporaries {
     {
         self.zeros = self.zeros.max(size);
         self
+    }
+
+    // Where an object is made.
+    fn making(mut self) -> Temporaries
+        ensures { result ≡ specs.making self }
+    {
+        self.heap = self.heap.max(HEAP_BYTES);
+        self
+    }
+
+    /// How many bytes the block has in which objects are made.
+    pub fn heap(&self) -> u32
+        ensures { result ≡ self.now.heap }
+    {
+        self.heap
     }
 
     /// How many bytes stay 0.
@@ -152,100 +177,157 @@ fn argument_sizes(alloc: Global, arguments: &[CoreArgument]) -> Result<Vec<u32>,
     Ok(sizes)
 }
 
-/// Of an access to a number of this type at a place.
-fn place_temporaries(
+// Of an access to so many bytes.
+fn access_temporaries(alloc: Global, size: u32, access: Access) -> Result<Temporaries, AllocError>
+    ensures { IfOk result (λ r. r ≡ specs.access_temporaries size access) }
+{
+    match access {
+        Access::Variable { .. } => Ok(Temporaries::none(alloc)),
+        Access::Object { .. } => Temporaries::none(alloc).under(size),
+        Access::Within { .. } => Temporaries::none(alloc).under(size),
+        Access::Pointed => Temporaries::none(alloc).under(size),
+    }
+}
+
+// On the way to where a place is.
+#[cycle(expression)]
+fn way_temporaries(
     alloc: Global,
-    type_: IntegerType,
+    variables: &[Variable],
     place: &Place,
 ) -> Result<Temporaries, AllocError>
-    ensures { IfOk result (λ r. r ≡ specs.place_temporaries type_ (view_place place.now)) }
+    ensures { IfOk result (λ r. r ≡ specs.way_temporaries variables.now (view_place place.now)) }
 {
     match place {
         Place::Variable { .. } => Ok(Temporaries::none(alloc)),
-        Place::Object { .. } => Temporaries::none(alloc).under(type_.size()),
+        Place::Object { .. } => Ok(Temporaries::none(alloc)),
         Place::Literal { .. } => Ok(Temporaries::none(alloc)),
-        Place::Pointed { .. } => Ok(Temporaries::none(alloc)),
-        Place::Arrow { .. } => Ok(Temporaries::none(alloc)),
-        Place::Member { .. } => Ok(Temporaries::none(alloc)),
-        Place::Element { .. } => Ok(Temporaries::none(alloc)),
-        Place::Subscript { .. } => Ok(Temporaries::none(alloc)),
+        Place::Pointed { pointer, .. } => expression_temporaries(alloc, variables, pointer),
+        Place::Arrow { pointer, .. } => expression_temporaries(alloc, variables, pointer),
+        Place::Member { place, .. } => way_temporaries(alloc, variables, place),
+        Place::Element { place, index, .. } => Ok(way_temporaries(alloc, variables, place)?.and(
+            expression_temporaries(alloc, variables, index)?,
+        )),
+        Place::Subscript { pointer, index, .. } => Ok(expression_temporaries(
+            alloc, variables, pointer,
+        )?.and(expression_temporaries(alloc, variables, index)?)),
     }
+}
+
+// Of a number of this type at a place.
+#[cycle(expression)]
+fn place_temporaries(
+    alloc: Global,
+    variables: &[Variable],
+    type_: IntegerType,
+    place: &Place,
+) -> Result<Temporaries, AllocError>
+    ensures { IfOk result (λ r. r ≡ specs.both (specs.way_temporaries variables.now (view_place place.now)) (specs.number_temporaries variables.now type_ (view_place place.now))) }
+{
+    let way = way_temporaries(alloc, variables, place)?;
+    Ok(way.and(access_temporaries(alloc, type_.size(), access_to(variables, place))?))
 }
 
 /// Of an expression.
 #[cycle(expression)]
-fn expression_temporaries(alloc: Global, expr: &CoreExpr) -> Result<Temporaries, AllocError>
-    ensures { IfOk result (λ r. r ≡ specs.temporaries (view expr.now)) }
+fn expression_temporaries(
+    alloc: Global,
+    variables: &[Variable],
+    expr: &CoreExpr,
+) -> Result<Temporaries, AllocError>
+    ensures { IfOk result (λ r. r ≡ specs.temporaries variables.now (view expr.now)) }
 {
     match expr {
         CoreExpr::Constant { .. } => Ok(Temporaries::none(alloc)),
-        CoreExpr::Read { type_, place } => place_temporaries(alloc, *type_, place),
-        CoreExpr::Convert { operand, .. } => expression_temporaries(alloc, operand),
-        CoreExpr::Sign { operand, .. } => expression_temporaries(alloc, operand),
-        CoreExpr::IsZero { operand, .. } => expression_temporaries(alloc, operand),
-        CoreExpr::Arithmetic { left, right, .. } => Ok(expression_temporaries(alloc, left)?.and(
-            expression_temporaries(alloc, right)?,
-        )),
-        CoreExpr::Compare { left, right, .. } => Ok(expression_temporaries(alloc, left)?.and(
-            expression_temporaries(alloc, right)?,
-        )),
-        CoreExpr::Logical { left, right, .. } => Ok(expression_temporaries(alloc, left)?.and(
-            expression_temporaries(alloc, right)?,
-        )),
+        CoreExpr::Read { type_, place } => place_temporaries(alloc, variables, *type_, place),
+        CoreExpr::Convert { operand, .. } => expression_temporaries(alloc, variables, operand),
+        CoreExpr::Sign { operand, .. } => expression_temporaries(alloc, variables, operand),
+        CoreExpr::IsZero { operand, .. } => expression_temporaries(alloc, variables, operand),
+        CoreExpr::Arithmetic { left, right, .. } => Ok(expression_temporaries(
+            alloc, variables, left,
+        )?.and(expression_temporaries(alloc, variables, right)?)),
+        CoreExpr::Compare { left, right, .. } => Ok(expression_temporaries(
+            alloc, variables, left,
+        )?.and(expression_temporaries(alloc, variables, right)?)),
+        CoreExpr::Logical { left, right, .. } => Ok(expression_temporaries(
+            alloc, variables, left,
+        )?.and(expression_temporaries(alloc, variables, right)?)),
         CoreExpr::Choice { test, yes, no, .. } => {
-            let branches = expression_temporaries(alloc, yes)?.and(expression_temporaries(
-                alloc, no,
-            )?);
-            Ok(expression_temporaries(alloc, test)?.and(branches))
+            let branches = expression_temporaries(alloc, variables, yes)?.and(
+                expression_temporaries(alloc, variables, no)?,
+            );
+            Ok(expression_temporaries(alloc, variables, test)?.and(branches))
         }
         CoreExpr::Assign {
             type_,
             place,
             value,
             ..
-        } => Ok(expression_temporaries(alloc, value)?.and(place_temporaries(
-            alloc, *type_, place,
+        } => Ok(expression_temporaries(alloc, variables, value)?.and(place_temporaries(
+            alloc, variables, *type_, place,
         )?)),
         CoreExpr::Update {
             type_,
             place,
             value,
             ..
-        } => Ok(expression_temporaries(alloc, value)?.and(place_temporaries(
-            alloc, *type_, place,
+        } => Ok(expression_temporaries(alloc, variables, value)?.and(place_temporaries(
+            alloc, variables, *type_, place,
         )?)),
-        CoreExpr::Step { type_, place, .. } => place_temporaries(alloc, *type_, place),
-        CoreExpr::Comma { left, right, .. } => Ok(expression_temporaries(alloc, left)?.and(
-            expression_temporaries(alloc, right)?,
-        )),
-        CoreExpr::Assertion { condition, .. } => expression_temporaries(alloc, condition),
-        CoreExpr::Assumption { condition, .. } => expression_temporaries(alloc, condition),
+        CoreExpr::Step { type_, place, .. } => place_temporaries(alloc, variables, *type_, place),
+        CoreExpr::Comma { left, right, .. } => Ok(expression_temporaries(
+            alloc, variables, left,
+        )?.and(expression_temporaries(alloc, variables, right)?)),
+        CoreExpr::Assertion { condition, .. } => expression_temporaries(
+            alloc, variables, condition,
+        ),
+        CoreExpr::Assumption { condition, .. } => expression_temporaries(
+            alloc, variables, condition,
+        ),
         CoreExpr::Draw { .. } => Ok(Temporaries::none(alloc)),
-        CoreExpr::Member { value, .. } => structure_temporaries(alloc, value)?.under(structure_size(
-            value,
-        )),
-        CoreExpr::Discard { operand, .. } => expression_temporaries(alloc, operand),
+        CoreExpr::Member { value, .. } => structure_temporaries(alloc, variables, value)?.under(
+            structure_size(value),
+        ),
+        CoreExpr::Discard { operand, .. } => expression_temporaries(alloc, variables, operand),
         CoreExpr::DiscardStructure { value } => {
-            structure_temporaries(alloc, value)?.under(structure_size(value))
+            structure_temporaries(alloc, variables, value)?.under(structure_size(value))
         }
         CoreExpr::Call {
             type_,
             arguments,
             ..
-        } => call_temporaries(alloc, value_size(*type_), arguments),
+        } => call_temporaries(alloc, variables, value_size(*type_), arguments),
         CoreExpr::FunctionName { .. } => Ok(Temporaries::none(alloc)),
         CoreExpr::SizeOf { .. } => Ok(Temporaries::none(alloc)),
         CoreExpr::SizeOfStructure { .. } => Ok(Temporaries::none(alloc)),
-        CoreExpr::Address { .. } => Ok(Temporaries::none(alloc)),
-        CoreExpr::Sum { .. } => Ok(Temporaries::none(alloc)),
-        CoreExpr::Distance { .. } => Ok(Temporaries::none(alloc)),
-        CoreExpr::Relation { .. } => Ok(Temporaries::none(alloc)),
-        CoreExpr::PointerUpdate { .. } => Ok(Temporaries::none(alloc)),
-        CoreExpr::PointerStep { .. } => Ok(Temporaries::none(alloc)),
-        CoreExpr::Allocate { .. } => Ok(Temporaries::none(alloc)),
-        CoreExpr::AllocateZeroed { .. } => Ok(Temporaries::none(alloc)),
-        CoreExpr::Release { .. } => Ok(Temporaries::none(alloc)),
-        CoreExpr::Exit { .. } => Ok(Temporaries::none(alloc)),
+        CoreExpr::Address { place, .. } => way_temporaries(alloc, variables, place),
+        CoreExpr::Sum { pointer, index, .. } => Ok(expression_temporaries(
+            alloc, variables, pointer,
+        )?.and(expression_temporaries(alloc, variables, index)?)),
+        CoreExpr::Distance { left, right, .. } => Ok(expression_temporaries(
+            alloc, variables, left,
+        )?.and(expression_temporaries(alloc, variables, right)?)),
+        CoreExpr::Relation { left, right, .. } => Ok(expression_temporaries(
+            alloc, variables, left,
+        )?.and(expression_temporaries(alloc, variables, right)?)),
+        CoreExpr::PointerUpdate { place, value, .. } => Ok(expression_temporaries(
+            alloc, variables, value,
+        )?.and(place_temporaries(alloc, variables, IntegerType::UnsignedLong, place)?)),
+        CoreExpr::PointerStep { place, .. } => {
+            place_temporaries(alloc, variables, IntegerType::UnsignedLong, place)
+        }
+        CoreExpr::Allocate { size, .. } => Ok(expression_temporaries(
+            alloc, variables, size,
+        )?.making()),
+        CoreExpr::AllocateZeroed { count, size, .. } => {
+            Ok(
+                expression_temporaries(alloc, variables, count)?
+                    .and(expression_temporaries(alloc, variables, size)?)
+                    .making(),
+            )
+        }
+        CoreExpr::Release { pointer, .. } => expression_temporaries(alloc, variables, pointer),
+        CoreExpr::Exit { status, .. } => expression_temporaries(alloc, variables, status),
         CoreExpr::Abort { .. } => Ok(Temporaries::none(alloc)),
     }
 }
@@ -254,12 +336,13 @@ fn expression_temporaries(alloc: Global, expr: &CoreExpr) -> Result<Temporaries,
 #[cycle(expression)]
 fn call_temporaries(
     alloc: Global,
+    variables: &[Variable],
     size: u32,
     arguments: &[CoreArgument],
 ) -> Result<Temporaries, AllocError>
-    ensures { IfOk result (λ r. r ≡ specs.call_needs size (arguments_of arguments.now) (specs.arguments_temporaries (arguments_of arguments.now))) }
+    ensures { IfOk result (λ r. r ≡ specs.call_needs size (arguments_of arguments.now) (specs.arguments_temporaries variables.now (arguments_of arguments.now))) }
 {
-    let temporaries = arguments_temporaries(alloc, arguments)?.under(size)?;
+    let temporaries = arguments_temporaries(alloc, variables, arguments)?.under(size)?;
     let sizes = argument_sizes(alloc, arguments)?;
     Ok(temporaries.under_all(sizes)?.clearing(size))
 }
@@ -267,24 +350,29 @@ fn call_temporaries(
 #[cycle(expression)]
 fn arguments_temporaries(
     alloc: Global,
+    variables: &[Variable],
     arguments: &[CoreArgument],
 ) -> Result<Temporaries, AllocError>
-    ensures { IfOk result (λ r. r ≡ specs.arguments_temporaries (arguments_of arguments.now)) }
+    ensures { IfOk result (λ r. r ≡ specs.arguments_temporaries variables.now (arguments_of arguments.now)) }
 {
     let mut temporaries = Temporaries::none(alloc);
     for place in (0..arguments.len()).rev() {
-        temporaries = argument_temporaries(alloc, &arguments[place])?.and(temporaries);
+        temporaries = argument_temporaries(alloc, variables, &arguments[place])?.and(temporaries);
     }
     Ok(temporaries)
 }
 
 #[cycle(expression)]
-fn argument_temporaries(alloc: Global, argument: &CoreArgument) -> Result<Temporaries, AllocError>
-    ensures { IfOk result (λ r. (rest : _) → specs.arguments_temporaries (with_argument argument.now rest) ≡ specs.both r (specs.arguments_temporaries rest)) }
+fn argument_temporaries(
+    alloc: Global,
+    variables: &[Variable],
+    argument: &CoreArgument,
+) -> Result<Temporaries, AllocError>
+    ensures { IfOk result (λ r. (rest : _) → specs.arguments_temporaries variables.now (with_argument argument.now rest) ≡ specs.both r (specs.arguments_temporaries variables.now rest)) }
 {
     match argument {
-        CoreArgument::Number { value } => expression_temporaries(alloc, value),
-        CoreArgument::Structure { value } => structure_temporaries(alloc, value),
+        CoreArgument::Number { value } => expression_temporaries(alloc, variables, value),
+        CoreArgument::Structure { value } => structure_temporaries(alloc, variables, value),
     }
 }
 
@@ -292,67 +380,93 @@ fn argument_temporaries(alloc: Global, argument: &CoreArgument) -> Result<Tempor
 #[cycle(expression)]
 fn structure_temporaries(
     alloc: Global,
+    variables: &[Variable],
     structure: &CoreStructure,
 ) -> Result<Temporaries, AllocError>
-    ensures { IfOk result (λ r. r ≡ specs.structure_temporaries (view_structure structure.now)) }
+    ensures { IfOk result (λ r. r ≡ specs.structure_temporaries variables.now (view_structure structure.now)) }
 {
     match structure {
-        CoreStructure::Read { .. } => Ok(Temporaries::none(alloc)),
+        CoreStructure::Read { place, .. } => way_temporaries(alloc, variables, place),
         CoreStructure::Choice { test, yes, no, .. } => {
-            let branches = structure_temporaries(alloc, yes)?.and(structure_temporaries(
-                alloc, no,
+            let branches = structure_temporaries(alloc, variables, yes)?.and(structure_temporaries(
+                alloc, variables, no,
             )?);
-            Ok(expression_temporaries(alloc, test)?.and(branches))
+            Ok(expression_temporaries(alloc, variables, test)?.and(branches))
         }
-        CoreStructure::Assign { value, .. } => structure_temporaries(alloc, value),
-        CoreStructure::Comma { left, right, .. } => Ok(expression_temporaries(alloc, left)?.and(
-            structure_temporaries(alloc, right)?,
-        )),
-        CoreStructure::Member { value, .. } => structure_temporaries(alloc, value)?.under(
-            structure_size(value),
-        ),
-        CoreStructure::List { size, parts, .. } => Ok(parts_temporaries(alloc, parts)?.clearing(
-            *size,
-        )),
+        CoreStructure::Assign { place, value, .. } => Ok(structure_temporaries(
+            alloc, variables, value,
+        )?.and(way_temporaries(alloc, variables, place)?)),
+        CoreStructure::Comma { left, right, .. } => Ok(expression_temporaries(
+            alloc, variables, left,
+        )?.and(structure_temporaries(alloc, variables, right)?)),
+        CoreStructure::Member { value, .. } => structure_temporaries(
+            alloc, variables, value,
+        )?.under(structure_size(value)),
+        CoreStructure::List { size, parts, .. } => Ok(parts_temporaries(
+            alloc, variables, parts,
+        )?.clearing(*size)),
         CoreStructure::String { size, .. } => Ok(Temporaries::none(alloc).clearing(*size)),
         CoreStructure::Call {
             size,
             arguments,
             ..
-        } => call_temporaries(alloc, *size, arguments),
+        } => call_temporaries(alloc, variables, *size, arguments),
     }
 }
 
 #[cycle(expression)]
-fn parts_temporaries(alloc: Global, parts: &[CorePart]) -> Result<Temporaries, AllocError>
-    ensures { IfOk result (λ r. r ≡ specs.parts_temporaries (parts_of parts.now)) }
+fn parts_temporaries(
+    alloc: Global,
+    variables: &[Variable],
+    parts: &[CorePart],
+) -> Result<Temporaries, AllocError>
+    ensures { IfOk result (λ r. r ≡ specs.parts_temporaries variables.now (parts_of parts.now)) }
 {
     let mut temporaries = Temporaries::none(alloc);
     for place in (0..parts.len()).rev() {
-        temporaries = part_temporaries(alloc, &parts[place])?.and(temporaries);
+        temporaries = part_temporaries(alloc, variables, &parts[place])?.and(temporaries);
     }
     Ok(temporaries)
 }
 
 #[cycle(expression)]
-fn part_temporaries(alloc: Global, part: &CorePart) -> Result<Temporaries, AllocError>
-    ensures { IfOk result (λ r. (rest : _) → specs.parts_temporaries (with_part part.now rest) ≡ specs.both r (specs.parts_temporaries rest)) }
+fn part_temporaries(
+    alloc: Global,
+    variables: &[Variable],
+    part: &CorePart,
+) -> Result<Temporaries, AllocError>
+    ensures { IfOk result (λ r. (rest : _) → specs.parts_temporaries variables.now (with_part part.now rest) ≡ specs.both r (specs.parts_temporaries variables.now rest)) }
 {
     match part {
-        CorePart::Number { value, .. } => expression_temporaries(alloc, value),
-        CorePart::Structure { value, .. } => structure_temporaries(alloc, value),
+        CorePart::Number { value, .. } => expression_temporaries(alloc, variables, value),
+        CorePart::Structure { value, .. } => structure_temporaries(alloc, variables, value),
+    }
+}
+
+// Of the first number of a variable.
+fn initial_temporaries(
+    alloc: Global,
+    size: u32,
+    home: Option<u32>,
+) -> Result<Temporaries, AllocError>
+    ensures { IfOk result (λ r. r ≡ specs.initial_temporaries size home) }
+{
+    match home {
+        Some(_) => Temporaries::none(alloc).under(size),
+        None => Ok(Temporaries::none(alloc)),
     }
 }
 
 /// Of a part of a loop, which may be missing.
 fn loop_part_temporaries(
     alloc: Global,
+    variables: &[Variable],
     part: &Option<Box<CoreExpr>>,
 ) -> Result<Temporaries, AllocError>
-    ensures { IfOk result (λ r. r ≡ specs.part_temporaries (option_map boxed part.now)) }
+    ensures { IfOk result (λ r. r ≡ specs.part_temporaries variables.now (option_map boxed part.now)) }
 {
     match part {
-        Some(value) => expression_temporaries(alloc, value),
+        Some(value) => expression_temporaries(alloc, variables, value),
         None => Ok(Temporaries::none(alloc)),
     }
 }
@@ -361,24 +475,31 @@ fn loop_part_temporaries(
 #[cycle(statement)]
 pub fn statement_temporaries(
     alloc: Global,
+    variables: &[Variable],
     statement: &CoreStatement,
 ) -> Result<Temporaries, AllocError>
-    ensures { IfOk result (λ r. r ≡ specs.statement_temporaries (view_statement statement.now)) }
+    ensures { IfOk result (λ r. r ≡ specs.statement_temporaries variables.now (view_statement statement.now)) }
 {
     match statement {
-        CoreStatement::Block { items } => items_temporaries(alloc, items),
+        CoreStatement::Block { items } => items_temporaries(alloc, variables, items),
         CoreStatement::If { test, yes, .. } => {
-            Ok(expression_temporaries(alloc, test)?.and(statement_temporaries(alloc, yes)?))
+            Ok(expression_temporaries(alloc, variables, test)?.and(statement_temporaries(
+                alloc, variables, yes,
+            )?))
         }
         CoreStatement::IfElse { test, yes, no, .. } => {
-            let branches = statement_temporaries(alloc, yes)?.and(statement_temporaries(
-                alloc, no,
+            let branches = statement_temporaries(alloc, variables, yes)?.and(statement_temporaries(
+                alloc, variables, no,
             )?);
-            Ok(expression_temporaries(alloc, test)?.and(branches))
+            Ok(expression_temporaries(alloc, variables, test)?.and(branches))
         }
-        CoreStatement::Evaluate { expression } => expression_temporaries(alloc, expression),
-        CoreStatement::Return { value, .. } => expression_temporaries(alloc, value),
-        CoreStatement::ReturnStructure { value, .. } => structure_temporaries(alloc, value),
+        CoreStatement::Evaluate { expression } => expression_temporaries(
+            alloc, variables, expression,
+        ),
+        CoreStatement::Return { value, .. } => expression_temporaries(alloc, variables, value),
+        CoreStatement::ReturnStructure { value, .. } => structure_temporaries(
+            alloc, variables, value,
+        ),
         CoreStatement::ReturnNothing { .. } => Ok(Temporaries::none(alloc)),
         CoreStatement::For {
             first,
@@ -387,48 +508,66 @@ pub fn statement_temporaries(
             body,
             ..
         } => {
-            let round = loop_part_temporaries(alloc, last)?.and(statement_temporaries(
-                alloc, body,
+            let round = loop_part_temporaries(alloc, variables, last)?.and(statement_temporaries(
+                alloc, variables, body,
             )?);
-            let rounds = loop_part_temporaries(alloc, test)?.and(round);
-            Ok(loop_part_temporaries(alloc, first)?.and(rounds))
+            let rounds = loop_part_temporaries(alloc, variables, test)?.and(round);
+            Ok(loop_part_temporaries(alloc, variables, first)?.and(rounds))
         }
-        CoreStatement::Do { body, test, .. } => Ok(statement_temporaries(alloc, body)?.and(
-            expression_temporaries(alloc, test)?,
-        )),
-        CoreStatement::Switch { value, items, .. } => Ok(expression_temporaries(alloc, value)?.and(
-            items_temporaries(alloc, items)?,
-        )),
+        CoreStatement::Do { body, test, .. } => Ok(statement_temporaries(
+            alloc, variables, body,
+        )?.and(expression_temporaries(alloc, variables, test)?)),
+        CoreStatement::Switch { value, items, .. } => Ok(expression_temporaries(
+            alloc, variables, value,
+        )?.and(items_temporaries(alloc, variables, items)?)),
         CoreStatement::Break { .. } => Ok(Temporaries::none(alloc)),
         CoreStatement::Continue { .. } => Ok(Temporaries::none(alloc)),
         CoreStatement::Goto { .. } => Ok(Temporaries::none(alloc)),
-        CoreStatement::Stray { statement, .. } => statement_temporaries(alloc, statement),
+        CoreStatement::Stray { statement, .. } => statement_temporaries(
+            alloc, variables, statement,
+        ),
     }
 }
 
 #[cycle(statement)]
-fn items_temporaries(alloc: Global, items: &[CoreItem]) -> Result<Temporaries, AllocError>
-    ensures { IfOk result (λ r. r ≡ specs.items_temporaries (items_of items.now)) }
+fn items_temporaries(
+    alloc: Global,
+    variables: &[Variable],
+    items: &[CoreItem],
+) -> Result<Temporaries, AllocError>
+    ensures { IfOk result (λ r. r ≡ specs.items_temporaries variables.now (items_of items.now)) }
 {
     let mut temporaries = Temporaries::none(alloc);
     for place in (0..items.len()).rev() {
-        temporaries = item_temporaries(alloc, &items[place])?.and(temporaries);
+        temporaries = item_temporaries(alloc, variables, &items[place])?.and(temporaries);
     }
     Ok(temporaries)
 }
 
 #[cycle(statement)]
 #[tactic(auto, using(crate::proofs::Greater::none_first))]
-fn item_temporaries(alloc: Global, item: &CoreItem) -> Result<Temporaries, AllocError>
-    ensures { IfOk result (λ r. (rest : _) → specs.items_temporaries (with_item item.now rest) ≡ specs.both r (specs.items_temporaries rest)) }
+fn item_temporaries(
+    alloc: Global,
+    variables: &[Variable],
+    item: &CoreItem,
+) -> Result<Temporaries, AllocError>
+    ensures { IfOk result (λ r. (rest : _) → specs.items_temporaries variables.now (with_item item.now rest) ≡ specs.both r (specs.items_temporaries variables.now rest)) }
 {
     match item {
         CoreItem::Declare { .. } => Ok(Temporaries::none(alloc)),
-        CoreItem::Initialize { value, .. } => expression_temporaries(alloc, value),
-        CoreItem::InitializeStructure { value, .. } => structure_temporaries(alloc, value)?.under(
-            structure_size(value),
-        ),
-        CoreItem::Statement { statement } => statement_temporaries(alloc, statement),
+        CoreItem::Initialize {
+            variable,
+            value,
+            ..
+        } => Ok(expression_temporaries(alloc, variables, value)?.and(initial_temporaries(
+            alloc,
+            number_size(value),
+            home_in(variables, *variable),
+        )?)),
+        CoreItem::InitializeStructure { value, .. } => structure_temporaries(
+            alloc, variables, value,
+        )?.under(structure_size(value)),
+        CoreItem::Statement { statement } => statement_temporaries(alloc, variables, statement),
         CoreItem::Label { .. } => Ok(Temporaries::none(alloc)),
         CoreItem::Case { .. } => Ok(Temporaries::none(alloc)),
         CoreItem::Default { .. } => Ok(Temporaries::none(alloc)),

@@ -1,26 +1,30 @@
 -- What each expression adds to a draft, by what its parts add.
-use Rattle.std.proofs.Common.{◌≡◌, ℕ, ◌+◌, ◌-◌, Bool, List, [], ◌∷◌, ◌++◌, length, Option, Some, None, refl, sym, ap, subst, ◌∙◌, arith, append_assoc, append-nil, length-append}
+use Rattle.std.proofs.Common.{◌≡◌, ℕ, ℤ, ◌+◌, ◌-◌, Bool, List, [], ◌∷◌, ◌++◌, length, Option, Some, None, refl, sym, ap, subst, ◌∙◌, arith, append_assoc, append-nil, length-append}
 use Rattle.std.specs.Prelude.{if◌then◌else◌, Result, Ok, Err, IfOk, OnOk}
 use Rattle.std.proofs.Math.Seq.{set-append_seam}
 use Rattle.c_types.specs.declared.integers.IntegerType.{IntegerType}
 use Rattle.c_types.specs.declared.integers.IntegerType.TheVariants.{Int}
-use Rattle.c_types.specs.Integers.{bytes, promoted}
+use Rattle.c_types.specs.Integers.{promoted}
 use Rattle.core_tree.specs.declared.operators.ArithmeticOperator.{ArithmeticOperator}
 use Rattle.core_tree.specs.declared.operators.Comparison.{Comparison}
 use Rattle.core_tree.specs.declared.operators.LogicalOperator.TheVariants as logicals
 use Rattle.core_tree.specs.declared.operators.SignOperator.{SignOperator}
 use Rattle.core_tree.specs.declared.operators.StepOperator.{StepOperator}
 use Rattle.core_tree.specs.Operations.{step_operation}
-use Rattle.core_tree.specs.Trees.{Place, object_at, Expression, constant, read, convert, sign, is_zero, arithmetic, compare, logical, choice, assign, update, step, comma, assertion, assumption, discard}
-use Rattle.c_meaning.specs.Meaning.{number_type}
+use Rattle.core_tree.specs.Trees.{Place, Expression, constant, read, convert, sign, is_zero, arithmetic, compare, logical, choice, assign, update, step, comma, assertion, assumption, discard}
+use Rattle.c_meaning.specs.Meaning.{number_type, place_line}
+use Rattle.c_temporaries.specs.declared.accesses.Access.{Access}
+use Rattle.c_temporaries.specs.declared.accesses.Access.TheVariants as accesses
+use Rattle.c_temporaries.specs.Accesses.{access}
 use Rattle.goto_prog.specs.declared.code.Instruction.{Instruction}
 use Rattle.goto_prog.specs.declared.code.Operation.TheVariants as operations
 use Rattle.code_draft.specs.declared.operand.Operand.{Operand}
 use Rattle.code_draft.specs.declared.operand.Updated.{Updated}
-use Rattle.lowered_code.specs.Lowering.{Frame, top, line_of, at_line, read_code, write_code, update_code, logical_code, truth_code, code}
-use Rattle.lowered_code.specs.Registers.{types, update_types}
-use Rattle.lowered_code.proofs.RegisterCounts.{types_length}
-use Rattle.code_draft.specs.Drafts.{Listed, next, added, filled, jump, landed, operand, after, value_in, Lowers}
+use Rattle.code_draft.specs.declared.operand.Way.{Way}
+use Rattle.lowered_code.specs.Lowering.{Frame, held, place_top, top, line_of, at_line, if_evaluated, place_code, read_code, write_code, fetch_code, put_code, update_code, logical_code, truth_code, code}
+use Rattle.lowered_code.specs.Registers.{held_types, place_types, types, update_types}
+use Rattle.lowered_code.proofs.RegisterCounts.{types_length, way_length}
+use Rattle.code_draft.specs.Drafts.{Listed, next, added, filled, jump, landed, way_by, moved_code, operand, after, value_in, Reaches, Lowers}
 
 -- ---- results
 
@@ -43,38 +47,53 @@ adds_more d e g xs ys ts us first second =
     ∙ (λ i. added (first i) ys us)
     ∙ (λ i. record d { instructions = append_assoc d.instructions xs ys i; registers = append_assoc d.registers ts us i })
 
-pub next_after : (d : Listed) (e : Expression) → next (after d e) ≡ next d + (top e + 1)
-next_after d e = next_added d (code d.frame e (next d)) (types e) ∙ ap (λ n. next d + n) (types_length e)
+-- what is added by the number of the next register
+pub adds_next : (d e g : Listed) (xs : List Instruction) (ts : List IntegerType) (tail : Frame → ℕ → List Instruction) (us : Frame → List IntegerType)
+    → e ≡ added d xs ts → g ≡ added e (tail e.frame (next e)) (us e.frame) → g ≡ added d (xs ++ tail d.frame (next d + length ts)) (ts ++ us d.frame)
+adds_next d e g xs ts tail us first second =
+    adds_more d e g xs (tail d.frame (next d + length ts)) ts (us d.frame) first
+    (second ∙ (λ i. added e (tail (first i).frame ((ap next first ∙ next_added d xs ts) i)) (us (first i).frame)))
 
-pub next_of : (old new : Listed) (e : Expression) (x : Operand) → Lowers old new e x → next new ≡ next old + (top e + 1)
+-- in one frame an expression has the same registers
+pub top_in : (f g : Frame) (e : Expression) → g ≡ f → top g.variables e ≡ top f.variables e
+top_in f g e same = λ i. top (same i).variables e
+
+pub next_after : (d : Listed) (e : Expression) → next (after d e) ≡ next d + (top d.frame.variables e + 1)
+next_after d e = next_added d (code d.frame e (next d)) (types d.frame.variables e) ∙ ap (λ n. next d + n) (types_length d.frame.variables e)
+
+pub next_of : (old new : Listed) (e : Expression) (x : Operand) → Lowers old new e x → next new ≡ next old + (top old.frame.variables e + 1)
 next_of old new e x h = ap next h.code_is ∙ next_after old e
 
 pub next_same : (d e : Listed) (xs : List Instruction) → e ≡ added d xs [] → next e ≡ next d
 next_same d e xs same = let sum : next (added d xs []) ≡ next d + 0 = next_added d xs [] in omega (arith, sum, ap next same)
 
 -- what comes behind an expression, by its value and the number of the next register
-pub behind_one : (old d new : Listed) (e : Expression) (x : Operand) (r : ℕ) (tail : Frame → Operand → ℕ → List Instruction) (ts : Operand → List IntegerType)
-    → Lowers old d e x → r ≡ next d → new ≡ added d (tail d.frame x r) (ts x)
-    → new ≡ added old (code old.frame e (next old) ++ tail old.frame (value_in old e) (next old + (top e + 1))) (types e ++ ts (value_in old e))
+pub behind_one : (old d new : Listed) (e : Expression) (x : Operand) (r : ℕ) (tail : Frame → Operand → ℕ → List Instruction) (ts : Frame → Operand → List IntegerType)
+    → Lowers old d e x → r ≡ next d → new ≡ added d (tail d.frame x r) (ts d.frame x)
+    → new ≡ added old (code old.frame e (next old) ++ tail old.frame (value_in old e) (next old + (top old.frame.variables e + 1))) (types old.frame.variables e ++ ts old.frame (value_in old e))
 behind_one old d new e x r tail ts h at same =
-    adds_more old (after old e) new (code old.frame e (next old)) (tail old.frame (value_in old e) (next (after old e))) (types e) (ts (value_in old e)) refl
-    (same ∙ (λ i. added d (tail d.frame x (at i)) (ts x)) ∙ (λ i. added (h.code_is i) (tail (h.code_is i).frame (h.value_is i) (next (h.code_is i))) (ts (h.value_is i))))
-    ∙ (λ i. added old (code old.frame e (next old) ++ tail old.frame (value_in old e) (next_after old e i)) (types e ++ ts (value_in old e)))
+    adds_more old (after old e) new (code old.frame e (next old)) (tail old.frame (value_in old e) (next (after old e))) (types old.frame.variables e) (ts old.frame (value_in old e)) refl
+    (same ∙ (λ i. added d (tail d.frame x (at i)) (ts d.frame x)) ∙ (λ i. added (h.code_is i) (tail (h.code_is i).frame (h.value_is i) (next (h.code_is i))) (ts (h.code_is i).frame (h.value_is i))))
+    ∙ (λ i. added old (code old.frame e (next old) ++ tail old.frame (value_in old e) (next_after old e i)) (types old.frame.variables e ++ ts old.frame (value_in old e)))
 
 -- the value of b, whose first register is m
-abbrev pub value_from : Expression → ℕ → Operand
-value_from b m = operand (m + top b) (number_type b) (line_of b)
+abbrev pub value_from : Frame → Expression → ℕ → Operand
+value_from f b m = operand (m + top f.variables b) (number_type b) (line_of b)
 
 pub behind_two : (old mid d new : Listed) (a b : Expression) (x y : Operand) (r : ℕ) (tail : Frame → Operand → Operand → ℕ → List Instruction) (ts : Operand → List IntegerType)
     → Lowers old mid a x → Lowers mid d b y → r ≡ next d → new ≡ added d (tail d.frame x y r) (ts x)
-    → (let m = next old + (top a + 1) in
-    new ≡ added old (code old.frame a (next old) ++ (code old.frame b m ++ tail old.frame (value_in old a) (value_from b m) (next old + (top a + (top b + 2))))) (types a ++ (types b ++ ts (value_in old a))))
+    → (let vs = old.frame.variables in
+    let m = next old + (top vs a + 1) in
+    new
+    ≡ added old (code old.frame a (next old) ++ (code old.frame b m ++ tail old.frame (value_in old a) (value_from old.frame b m) (next old + (top vs a + (top vs b + 2))))) (types vs a ++ (types vs b ++ ts (value_in old a))))
 behind_two old mid d new a b x y r tail ts h k at same =
-    let m = next old + (top a + 1) in
-    let last : m + (top b + 1) ≡ next old + (top a + (top b + 2)) = omega arith in
-    behind_one old mid new a x (next mid) (λ f z n. code f b n ++ tail f z (value_from b n) (n + (top b + 1))) (λ z. types b ++ ts z) h refl
-    (behind_one mid d new b y r (λ f z n. tail f x z n) (λ z. ts x) k at same)
-    ∙ (λ i. added old (code old.frame a (next old) ++ (code old.frame b m ++ tail old.frame (value_in old a) (value_from b m) (last i))) (types a ++ (types b ++ ts (value_in old a))))
+    let f = old.frame in
+    let vs = f.variables in
+    let m = next old + (top vs a + 1) in
+    let last : m + (top vs b + 1) ≡ next old + (top vs a + (top vs b + 2)) = omega arith in
+    behind_one old mid new a x (next mid) (λ g z n. code g b n ++ tail g z (value_from g b n) (n + (top g.variables b + 1))) (λ g z. types g.variables b ++ ts z) h refl
+    (behind_one mid d new b y r (λ g z n. tail g x z n) (λ g z. ts x) k at same)
+    ∙ (λ i. added old (code f a (next old) ++ (code f b m ++ tail f (value_in old a) (value_from f b m) (last i))) (types vs a ++ (types vs b ++ ts (value_in old a))))
 
 -- where nothing is added
 pub nothing_added : (d : Listed) → d ≡ added d [] []
@@ -82,90 +101,128 @@ nothing_added d = λ i. record d { instructions = sym (append-nil d.instructions
 
 -- ---- places
 
-pub read_object : (old d new : Listed) (x : Operand) (line : ℕ) (t : IntegerType) (k offset block count r : ℕ)
-    → block ≡ old.frame.free → count ≡ bytes t
-    → d ≡ added old (at_line old.frame line (operations.ReadObject block 0 k offset count) ∷ []) []
-    → r ≡ next d → new ≡ added d (at_line d.frame line (operations.Load r t block 0) ∷ []) (t ∷ []) → x ≡ operand (next d) t line
-    → Lowers old new (read t (object_at line k offset)) x
-read_object old d new x line t k offset block count r is_block is_count first at second v =
-    let i = at_line old.frame line (operations.ReadObject old.frame.free 0 k offset (bytes t)) in
-    let first' : d ≡ added old (i ∷ []) [] = first ∙ (λ j. added old (at_line old.frame line (operations.ReadObject (is_block j) 0 k offset (is_count j)) ∷ []) []) in
-    let same : next d ≡ next old = next_same old d (i ∷ []) first' in
-    let start : next d ≡ next old + 0 = omega (arith, same) in
+abbrev pub way_to : Listed → Place → Way
+way_to d x = way_by (access d.frame.variables x) (next d + place_top d.frame.variables x)
+
+pub next_way : (old new : Listed) (x : Place) (w : Way) → Reaches old new x w → next new ≡ next old + held old.frame.variables x
+next_way old new x w h =
+    ap next h.code_is
+    ∙ next_added old (if_evaluated (access old.frame.variables x) (place_code old.frame x (next old))) (held_types (access old.frame.variables x) (place_types old.frame.variables x))
+    ∙ ap (λ n. next old + n) (way_length old.frame.variables x)
+
+-- what comes behind the evaluation of a place, by how it is reached and the number of the next register
+pub behind_way : (old d new : Listed) (x : Place) (w : Way) (tail : Frame → Way → ℕ → List Instruction) (ts : Frame → List IntegerType)
+    → Reaches old d x w → new ≡ added d (tail d.frame w (next d)) (ts d.frame)
+    → new
+    ≡ added old (if_evaluated (access old.frame.variables x) (place_code old.frame x (next old)) ++ tail old.frame (way_to old x) (next old + held old.frame.variables x)) (held_types (access old.frame.variables x) (place_types old.frame.variables x) ++ ts old.frame)
+behind_way old d new x w tail ts h same =
+    let f = old.frame in
+    let first = if_evaluated (access f.variables x) (place_code f x (next old)) in
+    let kinds = held_types (access f.variables x) (place_types f.variables x) in
+    adds_more old d new first (tail f (way_to old x) (next old + held f.variables x)) kinds (ts f) h.code_is
+    (same ∙ (λ i. added d (tail (h.code_is i).frame (h.way_is i) (next_way old d x w h i)) (ts (h.code_is i).frame)))
+
+-- a register that tells nothing doesn't matter
+pub same_read : (f : Frame) (line r : ℕ) (t : IntegerType) (a : Access) (p : ℕ) → read_code f line r t a (way_by a p).pointer ≡ read_code f line r t a p
+same_read f line r t (accesses.Variable v offset) p = refl
+same_read f line r t (accesses.Object k offset) p = refl
+same_read f line r t (accesses.Within v) p = refl
+same_read f line r t accesses.Pointed p = refl
+
+pub same_write : (f : Frame) (line : ℕ) (t : IntegerType) (a : Access) (p r : ℕ) → write_code f line t a (way_by a p).pointer r ≡ write_code f line t a p r
+same_write f line t (accesses.Variable v offset) p r = refl
+same_write f line t (accesses.Object k offset) p r = refl
+same_write f line t (accesses.Within v) p r = refl
+same_write f line t accesses.Pointed p r = refl
+
+pub same_fetch : (f : Frame) (line : ℕ) (a : Access) (p size into to : ℕ) → fetch_code f line a (way_by a p).pointer size into to ≡ fetch_code f line a p size into to
+same_fetch f line (accesses.Variable v offset) p size into to = refl
+same_fetch f line (accesses.Object k offset) p size into to = refl
+same_fetch f line (accesses.Within v) p size into to = refl
+same_fetch f line accesses.Pointed p size into to = refl
+
+pub same_put : (f : Frame) (line : ℕ) (a : Access) (p size from to : ℕ) → put_code f line a (way_by a p).pointer size from to ≡ put_code f line a p size from to
+same_put f line (accesses.Variable v offset) p size from to = refl
+same_put f line (accesses.Object k offset) p size from to = refl
+same_put f line (accesses.Within v) p size from to = refl
+same_put f line accesses.Pointed p size from to = refl
+
+pub same_update : (f : Frame) (at line : ℕ) (t : IntegerType) (a : Access) (p : ℕ) (op : ArithmeticOperator) (u w : IntegerType) (y n : ℕ)
+    → update_code f at line t a (way_by a p).pointer op u w y n ≡ update_code f at line t a p op u w y n
+same_update f at line t (accesses.Variable v offset) p op u w y n = refl
+same_update f at line t (accesses.Object k offset) p op u w y n = refl
+same_update f at line t (accesses.Within v) p op u w y n = refl
+same_update f at line t accesses.Pointed p op u w y n = refl
+
+pub same_moved : (f : Frame) (at line : ℕ) (a : Access) (p : ℕ) (by : ℤ) (i : ℕ) (t : IntegerType) (n : ℕ) → moved_code f at line a (way_by a p).pointer by i t n ≡ moved_code f at line a p by i t n
+same_moved f at line (accesses.Variable v offset) p by i t n = refl
+same_moved f at line (accesses.Object k offset) p by i t n = refl
+same_moved f at line (accesses.Within v) p by i t n = refl
+same_moved f at line accesses.Pointed p by i t n = refl
+
+pub lowers_read : (old d new : Listed) (x : Place) (w : Way) (y : Operand) (line : ℕ) (t : IntegerType)
+    → line ≡ place_line x → Reaches old d x w
+    → new ≡ added d (read_code d.frame line (next d) t w.access w.pointer) (t ∷ []) → y ≡ operand (next d) t line
+    → Lowers old new (read t x) y
+lowers_read old d new x w y line t is_line h same v =
+    let f = old.frame in
+    let vs = f.variables in
     record {
-      code_is = adds_more old d new (i ∷ []) (at_line old.frame line (operations.Load (next old) t old.frame.free 0) ∷ []) [] (t ∷ []) first'
-          (second ∙ (λ j. added d (at_line (first' j).frame line (operations.Load ((at ∙ same) j) t (is_block j) 0) ∷ []) (t ∷ [])));
-      value_is = v ∙ (λ j. operand (start j) t line);
+      code_is = behind_way old d new x w (λ g u n. read_code g (place_line x) n t u.access u.pointer) (λ g. t ∷ []) h (same ∙ (λ i. added d (read_code d.frame (is_line i) (next d) t w.access w.pointer) (t ∷ [])))
+          ∙ (λ i. added old (if_evaluated (access vs x) (place_code f x (next old)) ++ same_read f (place_line x) (next old + held vs x) t (access vs x) (next old + place_top vs x) i) (held_types (access vs x) (place_types vs x) ++ t ∷ []));
+      value_is = v ∙ (λ i. operand (next_way old d x w h i) t (is_line i));
     }
 
-pub write_object : (old d new : Listed) (line place_line : ℕ) (t : IntegerType) (k offset block count r : ℕ)
-    → block ≡ old.frame.free → count ≡ bytes t
-    → d ≡ added old (at_line old.frame line (operations.Store block 0 count r) ∷ []) []
-    → new ≡ added d (at_line d.frame line (operations.WriteObject k offset block 0 count) ∷ []) []
-    → new ≡ added old (write_code old.frame line t (object_at place_line k offset) r) []
-write_object old d new line place_line t k offset block count r is_block is_count first second =
-    let i = at_line old.frame line (operations.Store old.frame.free 0 (bytes t) r) in
-    let first' : d ≡ added old (i ∷ []) [] = first ∙ (λ j. added old (at_line old.frame line (operations.Store (is_block j) 0 (is_count j) r) ∷ []) []) in
-    adds_more old d new (i ∷ []) (at_line old.frame line (operations.WriteObject k offset old.frame.free 0 (bytes t)) ∷ []) [] [] first'
-    (second ∙ (λ j. added d (at_line (first' j).frame line (operations.WriteObject k offset (is_block j) 0 (is_count j)) ∷ []) []))
-
--- a read of a place, three operations on it, and a write of it
-pub update_adds : (old d1 d2 d3 d4 new : Listed) (s : IntegerType) (p : Place) (loaded left value back : Operand) (line : ℕ) (op : ArithmeticOperator) (t u : IntegerType) (y a b c : ℕ)
-    → Lowers old d1 (read s p) loaded
-    → a ≡ next d1 → d2 ≡ added d1 (at_line d1.frame line (operations.Convert a loaded.type_ t loaded.register) ∷ []) (t ∷ []) → left ≡ operand (next d1) t line
-    → b ≡ next d2 → d3 ≡ added d2 (at_line d2.frame line (operations.Arithmetic b op t u left.register y) ∷ []) (t ∷ []) → value ≡ operand (next d2) t line
-    → c ≡ next d3 → d4 ≡ added d3 (at_line d3.frame line (operations.Convert c t loaded.type_ value.register) ∷ []) (loaded.type_ ∷ []) → back ≡ operand (next d3) loaded.type_ line
-    → new ≡ added d4 (write_code d4.frame line s p back.register) []
-    → new ≡ added old (update_code old.frame line s p op t u y (next old)) (update_types s t)
-update_adds old d1 d2 d3 d4 new s p loaded left value back line op t u y a b c h is_a first is_left is_b second is_value is_c third is_back last =
-    let n = next old in
+pub lowers_assign : (old mid d new : Listed) (p : Place) (w : Way) (e : Expression) (x y : Operand) (line : ℕ) (t : IntegerType)
+    → Reaches old mid p w → Lowers mid d e x
+    → new ≡ added d (write_code d.frame line t w.access w.pointer x.register) [] → y ≡ operand x.register t line
+    → Lowers old new (assign line t p e) y
+lowers_assign old mid d new p w e x y line t h k same v =
     let f = old.frame in
-    let place = s in
-    let f1 : d1.frame ≡ f = λ i. (h.code_is i).frame in
-    let n1 : next d1 ≡ n + 1 = omega (arith, next_of old d1 (read s p) loaded h) in
-    let none : n + 0 ≡ n = omega arith in
-    let from : loaded.register ≡ n = (λ i. (h.value_is i).register) ∙ none in
-    let is_place : loaded.type_ ≡ place = λ i. (h.value_is i).type_ in
-    let one = at_line f line (operations.Convert (n + 1) place t n) in
-    let first' : d2 ≡ added d1 (one ∷ []) (t ∷ []) = first ∙ (λ i. added d1 (at_line (f1 i) line (operations.Convert ((is_a ∙ n1) i) (is_place i) t (from i)) ∷ []) (t ∷ [])) in
-    let f2 : d2.frame ≡ f = (λ i. (first' i).frame) ∙ f1 in
-    let n2 : next d2 ≡ n + 2 = omega (arith, ap next first', next_added d1 (one ∷ []) (t ∷ []), n1) in
-    let left_is : left.register ≡ n + 1 = (λ i. (is_left i).register) ∙ n1 in
-    let two = at_line f line (operations.Arithmetic (n + 2) op t u (n + 1) y) in
-    let second' : d3 ≡ added d2 (two ∷ []) (t ∷ []) = second ∙ (λ i. added d2 (at_line (f2 i) line (operations.Arithmetic ((is_b ∙ n2) i) op t u (left_is i) y) ∷ []) (t ∷ [])) in
-    let f3 : d3.frame ≡ f = (λ i. (second' i).frame) ∙ f2 in
-    let n3 : next d3 ≡ n + 3 = omega (arith, ap next second', next_added d2 (two ∷ []) (t ∷ []), n2) in
-    let value_is : value.register ≡ n + 2 = (λ i. (is_value i).register) ∙ n2 in
-    let three = at_line f line (operations.Convert (n + 3) t place (n + 2)) in
-    let third' : d4 ≡ added d3 (three ∷ []) (place ∷ []) = third ∙ (λ i. added d3 (at_line (f3 i) line (operations.Convert ((is_c ∙ n3) i) t (is_place i) (value_is i)) ∷ []) (is_place i ∷ [])) in
-    let f4 : d4.frame ≡ f = (λ i. (third' i).frame) ∙ f3 in
-    let back_is : back.register ≡ n + 3 = (λ i. (is_back i).register) ∙ n3 in
-    let write = write_code f line s p (n + 3) in
-    let last' : new ≡ added d4 write [] = last ∙ (λ i. added d4 (write_code (f4 i) line s p (back_is i)) []) in
-    adds_more old d1 new (read_code f n s p) (one ∷ two ∷ three ∷ write) (place ∷ []) (t ∷ t ∷ place ∷ []) h.code_is
-    (adds_more d1 d2 new (one ∷ []) (two ∷ three ∷ write) (t ∷ []) (t ∷ place ∷ []) first'
-    (adds_more d2 d3 new (two ∷ []) (three ∷ write) (t ∷ []) (place ∷ []) second'
-    (adds_more d3 d4 new (three ∷ []) write (place ∷ []) [] third' last')))
+    let vs = f.variables in
+    let m = next old + held vs p in
+    let kinds = held_types (access vs p) (place_types vs p) in
+    let inner : new ≡ added mid (code mid.frame e (next mid) ++ write_code mid.frame line t w.access w.pointer (next mid + top mid.frame.variables e)) (types mid.frame.variables e) =
+    behind_one mid d new e x (next d) (λ g u n. write_code g line t w.access w.pointer u.register) (λ g u. []) k refl same
+    ∙ (λ i. added mid (code mid.frame e (next mid) ++ write_code mid.frame line t w.access w.pointer (next mid + top mid.frame.variables e)) (append-nil (types mid.frame.variables e) i)) in
+    let from : next mid + top mid.frame.variables e ≡ held vs p + top vs e + next old = omega (arith, next_way old mid p w h, top_in f mid.frame e (λ i. (h.code_is i).frame)) in
+    let last : x.register ≡ next old + (held vs p + top vs e) = omega (arith, ap (λ (z : Operand). z.register) k.value_is, from) in
+    record {
+      code_is = behind_way old mid new p w (λ g u n. code g e n ++ write_code g line t u.access u.pointer (n + top g.variables e)) (λ g. types g.variables e) h inner
+          ∙ (λ i. added old (if_evaluated (access vs p) (place_code f p (next old)) ++ (code f e m ++ same_write f line t (access vs p) (next old + place_top vs p) (m + top vs e) i)) (kinds ++ types vs e));
+      value_is = v ∙ (λ i. operand (last i) t line);
+    }
 
-pub update_registers : (old d1 d2 d3 : Listed) (s : IntegerType) (p : Place) (loaded back : Operand) (updated : Updated) (xs ys : List Instruction) (t u v : IntegerType) (line : ℕ)
-    → Lowers old d1 (read s p) loaded → d2 ≡ added d1 xs (t ∷ []) → d3 ≡ added d2 ys (u ∷ []) → back ≡ operand (next d3) v line
-    → updated ≡ record { old = loaded.register; new = back.register } → updated ≡ record { old = next old; new = next old + 3 }
-update_registers old d1 d2 d3 s p loaded back updated xs ys t u v line h first second is_back is_updated =
-    let none : next old + 0 ≡ next old = omega arith in
-    let three : next d3 ≡ next old + 3 = omega (arith, ap next second, next_added d2 ys (u ∷ []), ap next first, next_added d1 xs (t ∷ []), next_of old d1 (read s p) loaded h) in
-    is_updated ∙ (λ i. record { old = ((λ k. (h.value_is k).register) ∙ none) i; new = ((λ k. (is_back k).register) ∙ three) i })
+pub lowers_update : (old mid d new : Listed) (p : Place) (w : Way) (e : Expression) (x y : Operand) (at line q : ℕ) (s : IntegerType) (op : ArithmeticOperator) (t : IntegerType)
+    → at ≡ place_line p → Reaches old mid p w → Lowers mid d e x → q ≡ next d + 3
+    → new ≡ added d (update_code d.frame at line s w.access w.pointer op t x.type_ x.register (next d)) (update_types s t) → y ≡ operand q s line
+    → Lowers old new (update line s p op t e) y
+lowers_update old mid d new p w e x y at line q s op t is_at h k from same v =
+    let f = old.frame in
+    let vs = f.variables in
+    let m = next old + held vs p in
+    let kinds = held_types (access vs p) (place_types vs p) in
+    let inner = behind_one mid d new e x (next d) (λ g u n. update_code g (place_line p) line s w.access w.pointer op t u.type_ u.register n) (λ g u. update_types s t) k refl
+    (same ∙ (λ i. added d (update_code d.frame (is_at i) line s w.access w.pointer op t x.type_ x.register (next d)) (update_types s t))) in
+    let same_top : top mid.frame.variables e ≡ top vs e = top_in f mid.frame e (λ i. (h.code_is i).frame) in
+    let last : q ≡ next old + (held vs p + (top vs e + 4)) = omega (arith, next_of mid d e x k, next_way old mid p w h, same_top, from) in
+    record {
+      code_is = behind_way old mid new p w (λ g u n. code g e n ++ update_code g (place_line p) line s u.access u.pointer op t (number_type e) (n + top g.variables e) (n + (top g.variables e + 1))) (λ g. types g.variables e ++ update_types s t) h inner
+          ∙ (λ i. added old (if_evaluated (access vs p) (place_code f p (next old)) ++ (code f e m ++ same_update f (place_line p) line s (access vs p) (next old + place_top vs p) op t (number_type e) (m + top vs e) (m + (top vs e + 1)) i)) (kinds ++ (types vs e ++ update_types s t)));
+      value_is = v ∙ (λ i. operand (last i) s line);
+    }
 
 -- ---- behind one operand
 
 module _ (old d new : Listed) (e : Expression) (x y : Operand) (h : Lowers old d e x) where
-  value_behind : (t : Operand → IntegerType) (line : Operand → ℕ) → y ≡ operand (next d) (t x) (line x) → y ≡ operand (next old + (top e + 1)) (t (value_in old e)) (line (value_in old e))
+  value_behind : (t : Operand → IntegerType) (line : Operand → ℕ) → y ≡ operand (next d) (t x) (line x) → y ≡ operand (next old + (top old.frame.variables e + 1)) (t (value_in old e)) (line (value_in old e))
   value_behind t line v = v ∙ (λ i. operand (next_of old d e x h i) (t (h.value_is i)) (line (h.value_is i)))
 
   pub lowers_convert : (to : IntegerType) (r : ℕ) → r ≡ next d
       → new ≡ added d (at_line d.frame x.line (operations.Convert r x.type_ to x.register) ∷ []) (to ∷ []) → y ≡ operand (next d) to x.line
       → Lowers old new (convert to e) y
   lowers_convert to r at n v = record {
-    code_is = behind_one old d new e x r (λ f z m. at_line f z.line (operations.Convert m z.type_ to z.register) ∷ []) (λ z. to ∷ []) h at n;
+    code_is = behind_one old d new e x r (λ f z m. at_line f z.line (operations.Convert m z.type_ to z.register) ∷ []) (λ g z. to ∷ []) h at n;
     value_is = value_behind (λ z. to) (λ z. z.line) v;
   }
 
@@ -173,7 +230,7 @@ module _ (old d new : Listed) (e : Expression) (x y : Operand) (h : Lowers old d
       → new ≡ added d (at_line d.frame line (operations.Sign r op x.type_ x.register) ∷ []) (x.type_ ∷ []) → y ≡ operand (next d) x.type_ line
       → Lowers old new (sign line op e) y
   lowers_sign line op r at n v = record {
-    code_is = behind_one old d new e x r (λ f z m. at_line f line (operations.Sign m op z.type_ z.register) ∷ []) (λ z. z.type_ ∷ []) h at n;
+    code_is = behind_one old d new e x r (λ f z m. at_line f line (operations.Sign m op z.type_ z.register) ∷ []) (λ g z. z.type_ ∷ []) h at n;
     value_is = value_behind (λ z. z.type_) (λ z. line) v;
   }
 
@@ -181,36 +238,18 @@ module _ (old d new : Listed) (e : Expression) (x y : Operand) (h : Lowers old d
       → new ≡ added d (at_line d.frame line (operations.IsZero r x.register) ∷ []) (Int ∷ []) → y ≡ operand (next d) Int line
       → Lowers old new (is_zero line e) y
   lowers_is_zero line r at n v = record {
-    code_is = behind_one old d new e x r (λ f z m. at_line f line (operations.IsZero m z.register) ∷ []) (λ z. Int ∷ []) h at n;
+    code_is = behind_one old d new e x r (λ f z m. at_line f line (operations.IsZero m z.register) ∷ []) (λ g z. Int ∷ []) h at n;
     value_is = value_behind (λ z. Int) (λ z. line) v;
   }
-
-  pub lowers_assign : (line : ℕ) (s : IntegerType) (p : Place)
-      → new ≡ added d (write_code d.frame line s p x.register) [] → y ≡ operand x.register s line
-      → Lowers old new (assign line s p e) y
-  lowers_assign line s p n v = record {
-    code_is = behind_one old d new e x (next d) (λ f z m. write_code f line s p z.register) (λ z. []) h refl n ∙ (λ i. added old (code old.frame (assign line s p e) (next old)) (append-nil (types e) i));
-    value_is = v ∙ (λ i. operand (h.value_is i).register s line);
-  }
-
-  pub lowers_update : (line : ℕ) (s : IntegerType) (p : Place) (op : ArithmeticOperator) (t : IntegerType) (q : ℕ) → q ≡ next d + 3
-      → new ≡ added d (update_code d.frame line s p op t x.type_ x.register (next d)) (update_types s t) → y ≡ operand q s line
-      → Lowers old new (update line s p op t e) y
-  lowers_update line s p op t q from n v =
-      let last : q ≡ next old + (top e + 4) = omega (arith, next_of old d e x h, from) in
-      record {
-        code_is = behind_one old d new e x (next d) (λ f z m. update_code f line s p op t z.type_ z.register m) (λ z. update_types s t) h refl n;
-        value_is = v ∙ (λ i. operand (last i) s line);
-      }
 
   pub lowers_assertion : (mid : Listed) (line : ℕ)
       → mid ≡ added d (at_line d.frame line (operations.Assert x.register) ∷ []) [] → Lowers mid new (constant line Int 0) y
       → Lowers old new (assertion line e) y
   lowers_assertion mid line first k =
       let at : next mid ≡ next d = next_same d mid (at_line d.frame line (operations.Assert x.register) ∷ []) first in
-      let last : next mid + 0 ≡ next old + (top e + 1) = omega (arith, at, next_of old d e x h) in
+      let last : next mid + 0 ≡ next old + (top old.frame.variables e + 1) = omega (arith, at, next_of old d e x h) in
       record {
-        code_is = behind_one old d new e x (next d) (λ f z m. at_line f line (operations.Assert z.register) ∷ at_line f line (operations.Constant m 0) ∷ []) (λ z. Int ∷ []) h refl
+        code_is = behind_one old d new e x (next d) (λ f z m. at_line f line (operations.Assert z.register) ∷ at_line f line (operations.Constant m 0) ∷ []) (λ g z. Int ∷ []) h refl
             (adds_more d mid new (at_line d.frame line (operations.Assert x.register) ∷ []) (at_line d.frame line (operations.Constant (next d) 0) ∷ []) [] (Int ∷ []) first
             (k.code_is ∙ (λ i. added mid (at_line (first i).frame line (operations.Constant (at i) 0) ∷ []) (Int ∷ []))));
         value_is = k.value_is ∙ (λ i. operand (last i) Int line);
@@ -221,9 +260,9 @@ module _ (old d new : Listed) (e : Expression) (x y : Operand) (h : Lowers old d
       → Lowers old new (assumption line e) y
   lowers_assumption mid line first k =
       let at : next mid ≡ next d = next_same d mid (at_line d.frame line (operations.Assume x.register) ∷ []) first in
-      let last : next mid + 0 ≡ next old + (top e + 1) = omega (arith, at, next_of old d e x h) in
+      let last : next mid + 0 ≡ next old + (top old.frame.variables e + 1) = omega (arith, at, next_of old d e x h) in
       record {
-        code_is = behind_one old d new e x (next d) (λ f z m. at_line f line (operations.Assume z.register) ∷ at_line f line (operations.Constant m 0) ∷ []) (λ z. Int ∷ []) h refl
+        code_is = behind_one old d new e x (next d) (λ f z m. at_line f line (operations.Assume z.register) ∷ at_line f line (operations.Constant m 0) ∷ []) (λ g z. Int ∷ []) h refl
             (adds_more d mid new (at_line d.frame line (operations.Assume x.register) ∷ []) (at_line d.frame line (operations.Constant (next d) 0) ∷ []) [] (Int ∷ []) first
             (k.code_is ∙ (λ i. added mid (at_line (first i).frame line (operations.Constant (at i) 0) ∷ []) (Int ∷ []))));
         value_is = k.value_is ∙ (λ i. operand (last i) Int line);
@@ -231,17 +270,17 @@ module _ (old d new : Listed) (e : Expression) (x y : Operand) (h : Lowers old d
 
 pub lowers_discard : (old d new : Listed) (e : Expression) (x y : Operand) (line : ℕ) → Lowers old d e x → Lowers d new (constant line Int 0) y → Lowers old new (discard line e) y
 lowers_discard old d new e x y line h k =
-    let last : next d + 0 ≡ next old + (top e + 1) = omega (arith, next_of old d e x h) in
+    let last : next d + 0 ≡ next old + (top old.frame.variables e + 1) = omega (arith, next_of old d e x h) in
     record {
-      code_is = behind_one old d new e x (next d) (λ f z m. at_line f line (operations.Constant m 0) ∷ []) (λ z. Int ∷ []) h refl k.code_is;
+      code_is = behind_one old d new e x (next d) (λ f z m. at_line f line (operations.Constant m 0) ∷ []) (λ g z. Int ∷ []) h refl k.code_is;
       value_is = k.value_is ∙ (λ i. operand (last i) Int line);
     }
 
 -- ---- behind two
 
 module _ (old mid d new : Listed) (a b : Expression) (x y z : Operand) (h : Lowers old mid a x) (k : Lowers mid d b y) where
-  next_two : next d ≡ next old + (top a + (top b + 2))
-  next_two = omega (arith, next_of old mid a x h, next_of mid d b y k)
+  next_two : next d ≡ next old + (top old.frame.variables a + (top old.frame.variables b + 2))
+  next_two = omega (arith, next_of old mid a x h, next_of mid d b y k, top_in old.frame mid.frame b (λ i. (h.code_is i).frame))
 
   pub lowers_arithmetic : (line : ℕ) (op : ArithmeticOperator) (r : ℕ) → r ≡ next d
       → new ≡ added d (at_line d.frame line (operations.Arithmetic r op x.type_ y.type_ x.register y.register) ∷ []) (x.type_ ∷ []) → z ≡ operand (next d) x.type_ line
@@ -261,57 +300,71 @@ module _ (old mid d new : Listed) (a b : Expression) (x y z : Operand) (h : Lowe
 
   pub lowers_comma : (line : ℕ) → new ≡ d → z ≡ operand y.register y.type_ line → Lowers old new (comma line a b) z
   lowers_comma line n v =
-      let last : next mid + top b ≡ next old + (top a + (top b + 1)) = omega (arith, next_of old mid a x h) in
+      let vs = old.frame.variables in
+      let last : next mid + top mid.frame.variables b ≡ next old + (top vs a + (top vs b + 1)) = omega (arith, next_of old mid a x h, top_in old.frame mid.frame b (λ i. (h.code_is i).frame)) in
       record {
-        code_is = n ∙ behind_one old mid d a x (next mid) (λ f u m. code f b m) (λ u. types b) h refl k.code_is;
+        code_is = n ∙ behind_one old mid d a x (next mid) (λ f u m. code f b m) (λ f u. types f.variables b) h refl k.code_is;
         value_is = v ∙ (λ i. operand (k.value_is i).register (k.value_is i).type_ line) ∙ (λ i. operand (last i) (number_type b) line);
       }
 
 -- ---- `++` and `--`
 
-step_lowers : (old d1 d2 new : Listed) (one z : Operand) (into line : ℕ) (s : IntegerType) (p : Place) (op : StepOperator) (before : Bool)
+-- behind the place: 1, the operation, and the value before or behind it
+abbrev step_code : Frame → (at line : ℕ) → IntegerType → Way → StepOperator → Bool → ℕ → List Instruction
+step_code f at line t w op before m =
+    at_line f line (operations.Constant m 1)
+    ∷ (update_code f at line t w.access w.pointer (step_operation op) (promoted t) (promoted t) m (m + 1) ++ at_line f line (operations.Copy (m + 5) (if before then m + 4 else m + 1)) ∷ [])
+
+step_adds : (d d1 d2 new : Listed) (w : Way) (one : Operand) (into at line : ℕ) (s : IntegerType) (op : StepOperator) (before : Bool)
     → (let t = promoted s in
-    Lowers old d1 (constant line t 1) one
+    Lowers d d1 (constant line t 1) one
     → into ≡ next d2
-    → d2 ≡ added d1 (update_code d1.frame line s p (step_operation op) t one.type_ one.register (next d1)) (update_types s t)
+    → d2 ≡ added d1 (update_code d1.frame at line s w.access w.pointer (step_operation op) t one.type_ one.register (next d1)) (update_types s t)
     → new ≡ added d2 (at_line d2.frame line (operations.Copy into (if before then next d1 + 3 else next d1)) ∷ []) (s ∷ [])
-    → z ≡ operand (next d2) s line
-    → Lowers old new (step line s p op before) z)
-step_lowers old d1 d2 new one z into line s p op before h is_into second third v =
+    → (new ≡ added d (step_code d.frame at line s w op before (next d)) (t ∷ (update_types s t ++ s ∷ []))) × (next d2 ≡ next d + 5))
+step_adds d d1 d2 new w one into at line s op before h is_into second third =
     let t = promoted s in
-    let updated = λ (f : Frame) (u : Operand) (m : ℕ). update_code f line s p (step_operation op) t u.type_ u.register m in
+    let updated = λ (f : Frame) (u : Operand) (m : ℕ). update_code f at line s w.access w.pointer (step_operation op) t u.type_ u.register m in
     let two : next d2 ≡ next d1 + 4 = ap next second ∙ next_added d1 (updated d1.frame one (next d1)) (update_types s t) in
-    let from : next old + 0 ≡ next old = omega arith in
-    let start : next old + (0 + 1) ≡ next old + 1 = omega arith in
-    let taken : next old + (0 + 1) + 3 ≡ next old + 4 = omega arith in
-    let last : next old + (0 + 1) + 4 ≡ next old + 5 = omega arith in
-    let at : next d2 ≡ next old + 5 = omega (arith, two, next_of old d1 (constant line t 1) one h) in
-    record {
-      code_is =
-          behind_one old d1 new (constant line t 1) one (next d1) (λ f u m. updated f u m ++ at_line f line (operations.Copy (m + 4) (if before then m + 3 else m)) ∷ []) (λ u. update_types s t ++ s ∷ []) h refl
+    let from : next d + 0 ≡ next d = omega arith in
+    let start : next d + (0 + 1) ≡ next d + 1 = omega arith in
+    let taken : next d + (0 + 1) + 3 ≡ next d + 4 = omega arith in
+    let last : next d + (0 + 1) + 4 ≡ next d + 5 = omega arith in (
+      behind_one d d1 new (constant line t 1) one (next d1) (λ f u m. updated f u m ++ at_line f line (operations.Copy (m + 4) (if before then m + 3 else m)) ∷ []) (λ f u. update_types s t ++ s ∷ []) h refl
           (adds_more d1 d2 new (updated d1.frame one (next d1)) (at_line d1.frame line (operations.Copy (next d1 + 4) (if before then next d1 + 3 else next d1)) ∷ []) (update_types s t) (s ∷ []) second
           (third ∙ (λ i. added d2 (at_line (second i).frame line (operations.Copy ((is_into ∙ two) i) (if before then next d1 + 3 else next d1)) ∷ []) (s ∷ []))))
-          ∙ (λ i. added old (at_line old.frame line (operations.Constant (next old) 1) ∷ (update_code old.frame line s p (step_operation op) t t (from i) (start i) ++ at_line old.frame line (operations.Copy (last i) (if before then taken i else start i)) ∷ [])) (t ∷ (update_types s t ++ s ∷ [])));
-      value_is = v ∙ (λ i. operand (at i) s line);
-    }
+          ∙ (λ i. added d (at_line d.frame line (operations.Constant (next d) 1) ∷ (update_code d.frame at line s w.access w.pointer (step_operation op) t t (from i) (start i) ++ at_line d.frame line (operations.Copy (last i) (if before then taken i else start i)) ∷ [])) (t ∷ (update_types s t ++ s ∷ []))),
+      omega (arith, two, next_of d d1 (constant line t 1) one h),
+    )
 
-pub lowers_step : (old d1 d2 new : Listed) (one z : Operand) (updated : Updated) (value into line : ℕ) (s : IntegerType) (p : Place) (op : StepOperator) (before : Bool) (u : IntegerType) (sum : ArithmeticOperator)
+pub lowers_step : (old d d1 d2 new : Listed) (p : Place) (w : Way) (one z : Operand) (updated : Updated) (value into at line : ℕ) (s : IntegerType) (op : StepOperator) (before : Bool) (u : IntegerType) (sum : ArithmeticOperator)
+    → at ≡ place_line p → Reaches old d p w
     → u ≡ promoted s → sum ≡ step_operation op
-    → Lowers old d1 (constant line u 1) one
-    → d2 ≡ added d1 (update_code d1.frame line s p sum u one.type_ one.register (next d1)) (update_types s u)
+    → Lowers d d1 (constant line u 1) one
+    → d2 ≡ added d1 (update_code d1.frame at line s w.access w.pointer sum u one.type_ one.register (next d1)) (update_types s u)
     → updated ≡ record { old = next d1; new = next d1 + 3 }
     → into ≡ next d2
     → value ≡ (if before then updated.new else updated.old)
     → new ≡ added d2 (at_line d2.frame line (operations.Copy into value) ∷ []) (s ∷ [])
     → z ≡ operand (next d2) s line
     → Lowers old new (step line s p op before) z
-lowers_step old d1 d2 new one z updated value into line s p op before u sum is_u is_sum h second is_updated is_into is_value third v =
-    step_lowers old d1 d2 new one z into line s p op before
-    (subst (λ (w : IntegerType). Lowers old d1 (constant line w 1) one) is_u h)
+lowers_step old d d1 d2 new p w one z updated value into at line s op before u sum is_at way is_u is_sum h second is_updated is_into is_value third v =
+    let f = old.frame in
+    let vs = f.variables in
+    let t = promoted s in
+    let m = next old + held vs p in
+    let kinds = held_types (access vs p) (place_types vs p) in
+    let inner = step_adds d d1 d2 new w one into (place_line p) line s op before
+    (subst (λ (w : IntegerType). Lowers d d1 (constant line w 1) one) is_u h)
     is_into
-    (second ∙ (λ i. added d1 (update_code d1.frame line s p (is_sum i) (is_u i) one.type_ one.register (next d1)) (update_types s (is_u i))))
-    (third ∙ (λ i. added d2 (at_line d2.frame line (operations.Copy into ((is_value ∙ (λ k. if before then (is_updated k).new else (is_updated k).old)) i)) ∷ []) (s ∷ [])))
-    v
+    (second ∙ (λ i. added d1 (update_code d1.frame (is_at i) line s w.access w.pointer (is_sum i) (is_u i) one.type_ one.register (next d1)) (update_types s (is_u i))))
+    (third ∙ (λ i. added d2 (at_line d2.frame line (operations.Copy into ((is_value ∙ (λ k. if before then (is_updated k).new else (is_updated k).old)) i)) ∷ []) (s ∷ []))) in
+    let last : next d2 ≡ next old + (held vs p + 5) = omega (arith, inner.1, next_way old d p w way) in
+    record {
+      code_is = behind_way old d new p w (λ g y n. step_code g (place_line p) line s y op before n) (λ g. t ∷ (update_types s t ++ s ∷ [])) way inner.0
+          ∙ (λ i. added old (if_evaluated (access vs p) (place_code f p (next old)) ++ at_line f line (operations.Constant m 1) ∷ (same_update f (place_line p) line s (access vs p) (next old + place_top vs p) (step_operation op) t t m (m + 1) i ++ at_line f line (operations.Copy (m + 5) (if before then m + 4 else m + 1)) ∷ [])) (kinds ++ t ∷ (update_types s t ++ s ∷ [])));
+      value_is = v ∙ (λ i. operand (last i) s line);
+    }
 
 -- ---- jumps
 
@@ -344,7 +397,7 @@ module _ (old d new : Listed) (hole : Instruction) (xs : List Instruction) (ts :
   fills i at before same = same ∙ (λ k. filled (before k) place i) ∙ filled_in old hole i xs ts place at
 
 -- the register of the value of b, whose code's first register is m, is one before the next
-value_before : (mid d : Listed) (b : Expression) (y : Operand) → Lowers mid d b y → next d ≡ next mid + top b + 1
+value_before : (mid d : Listed) (b : Expression) (y : Operand) → Lowers mid d b y → next d ≡ next mid + top mid.frame.variables b + 1
 value_before mid d b y k = omega (arith, next_of mid d b y k)
 
 pub lowers_and : (old d0 d1 d2 d3 d4 d5 new : Listed) (a b : Expression) (x y truth : Operand) (skip line : ℕ) (hole : Instruction)
@@ -360,11 +413,13 @@ lowers_and old d0 d1 d2 d3 d4 d5 new a b x y truth skip line hole h first at k t
     let f = d0.frame in
     let m = next d0 in
     let from : next d1 ≡ m = next_same d0 d1 (hole ∷ []) first in
+    let vs = f.variables in
     let xs = code f b m in
-    let r = m + top b in
-    let second : d2 ≡ added d1 (code f b m) (types b) = k.code_is ∙ (λ i. added d1 (code (first i).frame b (from i)) (types b)) in
-    let is_y : y.register ≡ r = (λ i. (k.value_is i).register) ∙ (λ i. from i + top b) in
-    let after_y : next d2 ≡ r + 1 = omega (arith, from, value_before d1 d2 b y k) in
+    let r = m + top vs b in
+    let tb = types vs b in
+    let second : d2 ≡ added d1 (code f b m) tb = k.code_is ∙ (λ i. added d1 (code (first i).frame b (from i)) (types (first i).frame.variables b)) in
+    let is_y : y.register ≡ r = (λ i. (k.value_is i).register) ∙ (λ i. from i + top (first i).frame.variables b) in
+    let after_y : next d2 ≡ r + 1 = omega (arith, from, value_before d1 d2 b y k, top_in f d1.frame b (λ i. (first i).frame)) in
     let behind_y : next d2 + 1 ≡ r + 2 = omega (arith, after_y) in
     let f1 : d1.frame ≡ f = λ i. (first i).frame in
     let f2 : d2.frame ≡ f = (λ i. (second i).frame) ∙ f1 in
@@ -374,11 +429,11 @@ lowers_and old d0 d1 d2 d3 d4 d5 new a b x y truth skip line hole h first at k t
     third ∙ (λ i. added d2 (at_line (f2 i) line (operations.IsZero (after_y i) (is_y i)) ∷ at_line (f2 i) line (operations.IsZero (behind_y i) (after_y i)) ∷ []) (Int ∷ Int ∷ [])) in
     let over = at_line f line (operations.Skip 1) in
     let fourth' : d4 ≡ added d3 (over ∷ []) [] = fourth ∙ (λ i. added d3 (at_line (f3 i) line (operations.Skip 1) ∷ []) []) in
-    let ts = types b ++ Int ∷ Int ∷ [] in
+    let ts = tb ++ Int ∷ Int ∷ [] in
     let tail = at_line f line (operations.IsZero (r + 1) r) ∷ at_line f line (operations.IsZero (r + 2) (r + 1)) ∷ over ∷ [] in
     let all : d4 ≡ added d0 (hole ∷ (xs ++ tail)) ts =
     adds_more d0 d1 d4 (hole ∷ []) (xs ++ tail) [] ts first
-    (adds_more d1 d2 d4 xs tail (types b) (Int ∷ Int ∷ []) second
+    (adds_more d1 d2 d4 xs tail tb (Int ∷ Int ∷ []) second
     (adds_more d2 d3 d4 truths (over ∷ []) (Int ∷ Int ∷ []) [] third' fourth')) in
     let count : length (xs ++ tail) ≡ length xs + 3 = length-append xs tail in
     let jumps : d5 ≡ added d0 (at_line f line (operations.SkipIfZero x.register (length xs + 3)) ∷ (xs ++ tail)) ts =
@@ -392,9 +447,9 @@ lowers_and old d0 d1 d2 d3 d4 d5 new a b x y truth skip line hole h first at k t
     adds_more d0 d5 new (at_line f line (operations.SkipIfZero x.register (length xs + 3)) ∷ (xs ++ tail)) (zero ∷ []) ts [] jumps
     (last ∙ (λ i. added d5 (at_line (f5 i) line (operations.Constant (is_truth' i) 0) ∷ []) []))
     ∙ (λ i. added d0 (at_line f line (operations.SkipIfZero x.register (length xs + 3)) ∷ append_assoc xs tail (zero ∷ []) i) (no_more i)) in
-    let place : next d2 + 1 ≡ next old + (top a + (top b + 3)) = omega (arith, behind_y, next_of old d0 a x h) in
+    let place : next d2 + 1 ≡ next old + (top old.frame.variables a + (top old.frame.variables b + 3)) = omega (arith, behind_y, next_of old d0 a x h, top_in old.frame d0.frame b (λ i. (h.code_is i).frame)) in
     record {
-      code_is = behind_one old d0 new a x m (λ g z n. logical_code g line logicals.And z.register (code g b n) (n + top b)) (λ z. ts) h refl whole;
+      code_is = behind_one old d0 new a x m (λ g z n. logical_code g line logicals.And z.register (code g b n) (n + top g.variables b)) (λ g z. types g.variables b ++ Int ∷ Int ∷ []) h refl whole;
       value_is = is_truth ∙ (λ i. operand (place i) Int line);
     }
 
@@ -419,26 +474,28 @@ lowers_or old d0 d1 d2 d3 d4 d5 d6 new a b x y truth one skip line hole gap h fi
     let from1 : next d1 ≡ m = next_same d0 d1 (test ∷ []) first in
     let from2 : next d2 ≡ m = next_same d1 d2 (hole ∷ []) second ∙ from1 in
     let from : next d3 ≡ m = next_same d2 d3 (gap ∷ []) third ∙ from2 in
+    let vs = f.variables in
     let xs = code f b m in
-    let r = m + top b in
+    let r = m + top vs b in
+    let tb = types vs b in
     let f1 : d1.frame ≡ f = λ i. (first i).frame in
     let f2 : d2.frame ≡ f = (λ i. (second i).frame) ∙ f1 in
     let f3 : d3.frame ≡ f = (λ i. (third i).frame) ∙ f2 in
-    let right : d4 ≡ added d3 xs (types b) = k.code_is ∙ (λ i. added d3 (code (f3 i) b (from i)) (types b)) in
+    let right : d4 ≡ added d3 xs tb = k.code_is ∙ (λ i. added d3 (code (f3 i) b (from i)) (types (f3 i).variables b)) in
     let f4 : d4.frame ≡ f = (λ i. (right i).frame) ∙ f3 in
-    let is_y : y.register ≡ r = (λ i. (k.value_is i).register) ∙ (λ i. from i + top b) in
-    let after_y : next d4 ≡ r + 1 = omega (arith, from, value_before d3 d4 b y k) in
+    let is_y : y.register ≡ r = (λ i. (k.value_is i).register) ∙ (λ i. from i + top (f3 i).variables b) in
+    let after_y : next d4 ≡ r + 1 = omega (arith, from, value_before d3 d4 b y k, top_in f d3.frame b f3) in
     let behind_y : next d4 + 1 ≡ r + 2 = omega (arith, after_y) in
     let truths = at_line f line (operations.IsZero (r + 1) r) ∷ at_line f line (operations.IsZero (r + 2) (r + 1)) ∷ [] in
     let fourth' : d5 ≡ added d4 truths (Int ∷ Int ∷ []) =
     fourth ∙ (λ i. added d4 (at_line (f4 i) line (operations.IsZero (after_y i) (is_y i)) ∷ at_line (f4 i) line (operations.IsZero (behind_y i) (after_y i)) ∷ []) (Int ∷ Int ∷ [])) in
     let f5 : d5.frame ≡ f = (λ i. (fourth' i).frame) ∙ f4 in
-    let ts = types b ++ Int ∷ Int ∷ [] in
+    let ts = tb ++ Int ∷ Int ∷ [] in
     let tail = xs ++ truths in
     let all : d5 ≡ added d1 (hole ∷ gap ∷ tail) ts =
     adds_more d1 d2 d5 (hole ∷ []) (gap ∷ tail) [] ts second
     (adds_more d2 d3 d5 (gap ∷ []) tail [] ts third
-    (adds_more d3 d4 d5 xs truths (types b) (Int ∷ Int ∷ []) right fourth')) in
+    (adds_more d3 d4 d5 xs truths tb (Int ∷ Int ∷ []) right fourth')) in
     let is_truth' : truth.register ≡ r + 2 = (λ i. (is_truth i).register) ∙ behind_y in
     let set = at_line f line (operations.Constant (r + 2) 1) in
     let filled_one : d6 ≡ added d1 (set ∷ gap ∷ tail) ts =
@@ -454,22 +511,23 @@ lowers_or old d0 d1 d2 d3 d4 d5 d6 new a b x y truth one skip line hole gap h fi
     let whole : new ≡ added d0 (logical_code f line logicals.Or x.register xs r) ts =
     adds_more d0 d1 new (test ∷ []) (set ∷ over ∷ tail) [] ts first
     (adds_more d1 e new (set ∷ []) (over ∷ tail) [] ts refl jumps) in
-    let place : next d4 + 1 ≡ next old + (top a + (top b + 3)) = omega (arith, behind_y, next_of old d0 a x h) in
+    let place : next d4 + 1 ≡ next old + (top old.frame.variables a + (top old.frame.variables b + 3)) = omega (arith, behind_y, next_of old d0 a x h, top_in old.frame d0.frame b (λ i. (h.code_is i).frame)) in
     record {
-      code_is = behind_one old d0 new a x m (λ g z n. logical_code g line logicals.Or z.register (code g b n) (n + top b)) (λ z. ts) h refl whole;
+      code_is = behind_one old d0 new a x m (λ g z n. logical_code g line logicals.Or z.register (code g b n) (n + top g.variables b)) (λ g z. types g.variables b ++ Int ∷ Int ∷ []) h refl whole;
       value_is = is_truth ∙ (λ i. operand (place i) Int line);
     }
 
 -- `?:` behind its test, whose value the register t has, with registers from m on
 abbrev choice_code : Frame → ℕ → Expression → Expression → ℕ → ℕ → List Instruction
 choice_code f line a b t m =
-    let second = m + (top a + 1) in
-    let result = second + (top b + 1) in
+    let vs = f.variables in
+    let second = m + (top vs a + 1) in
+    let result = second + (top vs b + 1) in
     at_line f line (operations.SkipIfZero t (length (code f a m) + 2))
     ∷ (code f a m
-    ++ at_line f line (operations.Copy result (m + top a))
+    ++ at_line f line (operations.Copy result (m + top vs a))
     ∷ at_line f line (operations.Skip (length (code f b second) + 1))
-    ∷ (code f b second ++ at_line f line (operations.Copy result (second + top b)) ∷ []))
+    ∷ (code f b second ++ at_line f line (operations.Copy result (second + top vs b)) ∷ []))
 
 pub lowers_choice : (old d0 d1 d2 d3 d4 d5 d6 d7 d8 new : Listed) (e a b : Expression) (test x y z : Operand) (skip copied over into line : ℕ) (hole gap space : Instruction)
     → Lowers old d0 e test
@@ -488,12 +546,13 @@ lowers_choice old d0 d1 d2 d3 d4 d5 d6 d7 d8 new e a b test x y z skip copied ov
     let f = d0.frame in
     let m = next d0 in
     let from : next d1 ≡ m = next_same d0 d1 (hole ∷ []) first in
+    let vs = f.variables in
     let xs = code f a m in
-    let ta = types a in
+    let ta = types vs a in
     let f1 : d1.frame ≡ f = λ i. (first i).frame in
-    let yes : d2 ≡ added d1 xs ta = k.code_is ∙ (λ i. added d1 (code (f1 i) a (from i)) ta) in
+    let yes : d2 ≡ added d1 xs ta = k.code_is ∙ (λ i. added d1 (code (f1 i) a (from i)) (types (f1 i).variables a)) in
     let f2 : d2.frame ≡ f = (λ i. (yes i).frame) ∙ f1 in
-    let is_x : x ≡ operand (m + top a) (number_type a) (line_of a) = k.value_is ∙ (λ i. operand (from i + top a) (number_type a) (line_of a)) in
+    let is_x : x ≡ operand (m + top vs a) (number_type a) (line_of a) = k.value_is ∙ (λ i. operand (from i + top (f1 i).variables a) (number_type a) (line_of a)) in
     let before : d4 ≡ added d0 (hole ∷ (xs ++ gap ∷ space ∷ [])) (ta ++ []) =
     adds_more d0 d1 d4 (hole ∷ []) (xs ++ gap ∷ space ∷ []) [] (ta ++ []) first
     (adds_more d1 d2 d4 xs (gap ∷ space ∷ []) ta [] yes
@@ -505,19 +564,19 @@ lowers_choice old d0 d1 d2 d3 d4 d5 d6 d7 d8 new e a b test x y z skip copied ov
     ∙ (λ i. added d0 (at_line f line (operations.SkipIfZero test.register (count i)) ∷ (xs ++ gap ∷ space ∷ [])) (ta ++ [])) in
     let e2 = added d0 (jump1 ∷ xs) ta in
     let after_two : d5 ≡ added e2 (gap ∷ space ∷ []) [] = jumps ∙ sym (adds_more d0 e2 (added e2 (gap ∷ space ∷ []) []) (jump1 ∷ xs) (gap ∷ space ∷ []) ta [] refl refl) in
-    let second = m + (top a + 1) in
-    let from2 : next d5 ≡ second = next_same e2 d5 (gap ∷ space ∷ []) after_two ∙ next_added d0 (jump1 ∷ xs) ta ∙ ap (λ n. m + n) (types_length a) in
+    let second = m + (top vs a + 1) in
+    let from2 : next d5 ≡ second = next_same e2 d5 (gap ∷ space ∷ []) after_two ∙ next_added d0 (jump1 ∷ xs) ta ∙ ap (λ n. m + n) (types_length vs a) in
     let f5 : d5.frame ≡ f = λ i. (jumps i).frame in
     let ys = code f b second in
-    let tb = types b in
-    let no : d6 ≡ added d5 ys tb = l.code_is ∙ (λ i. added d5 (code (f5 i) b (from2 i)) tb) in
+    let tb = types vs b in
+    let no : d6 ≡ added d5 ys tb = l.code_is ∙ (λ i. added d5 (code (f5 i) b (from2 i)) (types (f5 i).variables b)) in
     let f6 : d6.frame ≡ f = (λ i. (no i).frame) ∙ f5 in
-    let is_y : y.register ≡ second + top b = (λ i. (l.value_is i).register) ∙ (λ i. from2 i + top b) in
-    let result = second + (top b + 1) in
-    let is_result : next d6 ≡ result = omega (arith, value_before d5 d6 b y l, from2) in
+    let is_y : y.register ≡ second + top vs b = (λ i. (l.value_is i).register) ∙ (λ i. from2 i + top (f5 i).variables b) in
+    let result = second + (top vs b + 1) in
+    let is_result : next d6 ≡ result = omega (arith, value_before d5 d6 b y l, from2, top_in f d5.frame b f5) in
     let into_is : into ≡ result = is_into ∙ is_result in
     let t = number_type a in
-    let copy2 = at_line f line (operations.Copy result (second + top b)) in
+    let copy2 = at_line f line (operations.Copy result (second + top vs b)) in
     let sixth' : d7 ≡ added d6 (copy2 ∷ []) (t ∷ []) = sixth ∙ (λ i. added d6 (at_line (f6 i) line (operations.Copy (into_is i) (is_y i)) ∷ []) ((is_x i).type_ ∷ [])) in
     let f7 : d7.frame ≡ f = (λ i. (sixth' i).frame) ∙ f6 in
     let tail = ys ++ copy2 ∷ [] in
@@ -525,7 +584,7 @@ lowers_choice old d0 d1 d2 d3 d4 d5 d6 d7 d8 new e a b test x y z skip copied ov
     let two : d7 ≡ added e2 (gap ∷ space ∷ tail) ts =
     adds_more e2 d5 d7 (gap ∷ space ∷ []) tail [] ts after_two
     (adds_more d5 d6 d7 ys (copy2 ∷ []) tb (t ∷ []) no sixth') in
-    let copy1 = at_line f line (operations.Copy result (m + top a)) in
+    let copy1 = at_line f line (operations.Copy result (m + top vs a)) in
     let long2 : length d2.instructions ≡ length e2.instructions =
     (λ i. length (yes i).instructions) ∙ length_added d1 xs ta ∙ (λ i. length (first i).instructions + length xs) ∙ (λ i. length_added d0 (hole ∷ []) [] i + length xs)
     ∙ (let same : length d0.instructions + length (hole ∷ []) + length xs ≡ length d0.instructions + length (jump1 ∷ xs) = omega arith in same)
@@ -544,8 +603,9 @@ lowers_choice old d0 d1 d2 d3 d4 d5 d6 d7 d8 new e a b test x y z skip copied ov
     let whole : new ≡ added d0 (choice_code f line a b test.register m) (ta ++ ts) =
     adds_more d0 e2 new (jump1 ∷ xs) (copy1 ∷ jump2 ∷ tail) ta ts refl
     (adds_more e2 e3 new (copy1 ∷ []) (jump2 ∷ tail) [] ts refl landed_last) in
-    let place : next d6 ≡ next old + (top e + (top a + (top b + 3))) = omega (arith, is_result, next_of old d0 e test h) in
+    let ws = old.frame.variables in
+    let place : next d6 ≡ next old + (top ws e + (top ws a + (top ws b + 3))) = omega (arith, is_result, next_of old d0 e test h, top_in old.frame d0.frame a (λ i. (h.code_is i).frame), top_in old.frame d0.frame b (λ i. (h.code_is i).frame)) in
     record {
-      code_is = behind_one old d0 new e test m (λ g u n. choice_code g line a b u.register n) (λ u. ta ++ ts) h refl whole;
+      code_is = behind_one old d0 new e test m (λ g u n. choice_code g line a b u.register n) (λ g u. types g.variables a ++ (types g.variables b ++ t ∷ [])) h refl whole;
       value_is = is_z ∙ (λ i. operand (place i) (is_x i).type_ line);
     }

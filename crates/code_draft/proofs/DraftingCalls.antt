@@ -43,18 +43,19 @@ number_argument_adds d d1 new e x block count rest h is_count same =
     let store : Frame → Operand → Instruction = λ g u. at_line g u.line (operations.Store block 0 (bytes u.type_) u.register) in
     let same' : new ≡ added d1 (store d1.frame x ∷ []) [] = same ∙ (λ i. added d1 (at_line d1.frame x.line (operations.Store block 0 (is_count i) x.register) ∷ []) []) in
     let at : next new ≡ next d1 = next_same d1 new (store d1.frame x ∷ []) same' in
-    behind_one d d1 (after_arguments new rest (block + 1)) e x (next d1) (λ g u m. store g u ∷ arguments_code g rest m (block + 1)) (λ u. arguments_types rest) h refl
-    (adds_more d1 new (after_arguments new rest (block + 1)) (store d1.frame x ∷ []) (arguments_code d1.frame rest (next d1) (block + 1)) [] (arguments_types rest) same'
-    (λ i. added new (arguments_code (same' i).frame rest (at i) (block + 1)) (arguments_types rest)))
+    behind_one d d1 (after_arguments new rest (block + 1)) e x (next d1) (λ g u m. store g u ∷ arguments_code g rest m (block + 1)) (λ g u. arguments_types g.variables rest) h refl
+    (adds_more d1 new (after_arguments new rest (block + 1)) (store d1.frame x ∷ []) (arguments_code d1.frame rest (next d1) (block + 1)) [] (arguments_types d1.frame.variables rest) same'
+    (λ i. added new (arguments_code (same' i).frame rest (at i) (block + 1)) (arguments_types (same' i).frame.variables rest)))
 
 pub structure_argument_adds : (d new : Listed) (a : Structure) (block : ℕ) (rest : Arguments)
     → new ≡ after_structure d a block 0
     → after_arguments new rest (block + 1) ≡ after_arguments d (structure_argument a rest) block
 structure_argument_adds d new a block rest same =
     let f = d.frame in
-    let at : next new ≡ next d + structure_registers a = ap next same ∙ next_added d (structure_code f a (next d) block 0) (structure_types a) ∙ ap (λ n. next d + n) (structure_length a) in
-    adds_more d new (after_arguments new rest (block + 1)) (structure_code f a (next d) block 0) (arguments_code f rest (next d + structure_registers a) (block + 1)) (structure_types a) (arguments_types rest) same
-    (λ i. added new (arguments_code (same i).frame rest (at i) (block + 1)) (arguments_types rest))
+    let vs = f.variables in
+    let at : next new ≡ next d + structure_registers vs a = ap next same ∙ next_added d (structure_code f a (next d) block 0) (structure_types vs a) ∙ ap (λ n. next d + n) (structure_length vs a) in
+    adds_more d new (after_arguments new rest (block + 1)) (structure_code f a (next d) block 0) (arguments_code f rest (next d + structure_registers vs a) (block + 1)) (structure_types vs a) (arguments_types vs rest) same
+    (λ i. added new (arguments_code (same i).frame rest (at i) (block + 1)) (arguments_types (same i).frame.variables rest))
 
 -- ---- calls
 
@@ -82,21 +83,22 @@ called : (d d1 d2 new : Listed) (args : Arguments) (p : Passed) (line callee siz
     → d1 ≡ after_passed d args → p ≡ passed_of d args
     → d2 ≡ added d1 (calling d1.frame line callee used size p (next d1)) (Int ∷ [])
     → new ≡ added d2 (tail d2.frame p.into (next d2) ∷ []) ts
-    → (let r = next d + arguments_registers args in
+    → (let r = next d + arguments_registers d.frame.variables args in
     let count = argument_count args in
-    new ≡ added d (arguments_code (deeper_by (count + 1) d.frame) args (next d) d.frame.free ++ (call_code d.frame line callee used size count r ++ tail d.frame (d.frame.free + count) (r + 1) ∷ [])) (arguments_types args ++ (Int ∷ ts)))
+    new ≡ added d (arguments_code (deeper_by (count + 1) d.frame) args (next d) d.frame.free ++ (call_code d.frame line callee used size count r ++ tail d.frame (d.frame.free + count) (r + 1) ∷ [])) (arguments_types d.frame.variables args ++ (Int ∷ ts)))
 called d d1 d2 new args p line callee size used tail ts first is_passed second third =
-    let r = next d + arguments_registers args in
-    let count = argument_count args in
     let f = d.frame in
+    let vs = f.variables in
+    let r = next d + arguments_registers vs args in
+    let count = argument_count args in
     let args_code = arguments_code (deeper_by (count + 1) f) args (next d) f.free in
-    let from : next d1 ≡ r = ap next first ∙ next_added d args_code (arguments_types args) ∙ ap (λ n. next d + n) (arguments_length args) in
+    let from : next d1 ≡ r = ap next first ∙ next_added d args_code (arguments_types vs args) ∙ ap (λ n. next d + n) (arguments_length vs args) in
     let second' : d2 ≡ added d1 (call_code f line callee used size count r) (Int ∷ []) =
     second ∙ (λ i. added d1 (calling (first i).frame line callee used size (is_passed i) (from i)) (Int ∷ [])) in
     let f2 : d2.frame ≡ f = (λ i. (second' i).frame) ∙ (λ i. (first i).frame) in
     let next2 : next d2 ≡ r + 1 = omega (arith, ap next second', next_added d1 (call_code f line callee used size count r) (Int ∷ []), from) in
     let third' : new ≡ added d2 (tail f (f.free + count) (r + 1) ∷ []) ts = third ∙ (λ i. added d2 (tail (f2 i) (is_passed i).into (next2 i) ∷ []) ts) in
-    adds_more d d1 new args_code (call_code f line callee used size count r ++ tail f (f.free + count) (r + 1) ∷ []) (arguments_types args) (Int ∷ ts) first
+    adds_more d d1 new args_code (call_code f line callee used size count r ++ tail f (f.free + count) (r + 1) ∷ []) (arguments_types vs args) (Int ∷ ts) first
     (adds_more d1 d2 new (call_code f line callee used size count r) (tail f (f.free + count) (r + 1) ∷ []) (Int ∷ []) ts second' third')
 
 pub lowers_call : (d d1 d2 new : Listed) (args : Arguments) (p : Passed) (line callee size : ℕ) (used : Bool) (t : ValueType) (x : Operand)
@@ -107,8 +109,9 @@ pub lowers_call : (d d1 d2 new : Listed) (args : Arguments) (p : Passed) (line c
 lowers_call d d1 d2 new args p line callee size used t x first is_passed is_size second third v =
     let count = argument_count args in
     let args_code = arguments_code (deeper_by (count + 1) d.frame) args (next d) d.frame.free in
-    let from : next d1 ≡ next d + arguments_registers args = ap next first ∙ next_added d args_code (arguments_types args) ∙ ap (λ n. next d + n) (arguments_length args) in
-    let next2 : next d2 ≡ next d + (arguments_registers args + 1) = omega (arith, ap next second, next_added d1 (calling d1.frame line callee used size p (next d1)) (Int ∷ []), from) in
+    let vs = d.frame.variables in
+    let from : next d1 ≡ next d + arguments_registers vs args = ap next first ∙ next_added d args_code (arguments_types vs args) ∙ ap (λ n. next d + n) (arguments_length vs args) in
+    let next2 : next d2 ≡ next d + (arguments_registers vs args + 1) = omega (arith, ap next second, next_added d1 (calling d1.frame line callee used size p (next d1)) (Int ∷ []), from) in
     record {
       code_is = called d d1 d2 new args p line callee (value_size t) used (λ g b n. taken_code g line t b n) (integer_of t ∷ []) first is_passed
           (second ∙ (λ i. added d1 (calling d1.frame line callee used (is_size i) p (next d1)) (Int ∷ []))) third;

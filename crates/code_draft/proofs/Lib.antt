@@ -1,4 +1,6 @@
 pub mod Making
 pub mod Drafting
+pub mod DraftingPointers
 pub mod DraftingStructures
 pub mod DraftingCalls
+pub mod Leaving

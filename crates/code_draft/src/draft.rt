@@ -1,37 +1,49 @@
 //! Code of a function while it is made: its instructions, registers and blocks.
 
-ghost use Rattle.std.specs.Prelude.{◌≡◌, ◌+◌, [], ◌∷◌, ◌-◌, length, drop, reverse, IfOk, OnOk};
+ghost use Rattle.std.specs.Prelude.{◌≡◌, ◌+◌, [], ◌∷◌, ◌-◌, length, drop, reverse, slice_get, Some, IfOk, OnOk};
+ghost use Rattle.c_meaning.specs.Meaning.{is_readonly};
 ghost use Rattle.goto_prog.specs.Nodes.{plain, repeats, nodes_of};
-ghost use Rattle.lowered_code.specs.Lowering.{at_line, size_of, plains, to_place};
+ghost use Rattle.c_temporaries.specs.Accesses.{home_in};
+ghost use Rattle.lowered_code.specs.Lowering.{at_line, size_of, have_homes, plains, to_place, death_code};
 ghost use Rattle.lowered_code.specs.Lowered.{first_frame};
-ghost use Rattle.code_draft.specs.Drafts.{next, added, filled, flushed, landed, jump, operand, target, place_of};
+ghost use Rattle.lowered_code.specs.Registers.{death_types};
+ghost use Rattle.code_draft.specs.Drafts.{next, added, filled, flushed, landed, jump, operand, place_of, deaths_of, deaths_to};
+ghost use Rattle.code_draft.specs.declared.places.Mark.TheVariants as marks;
 
 use crate::operand::Operand;
-use crate::places::{Target, more};
+use crate::places::{Mark, more};
+use c_temporaries::home_in;
 use c_types::IntegerType;
+use core_tree::Variable;
 use goto_prog::{Instruction, Node, Operation};
 use std::alloc::{AllocError, Global};
 use std::marker::Model;
 
-/// The code of a function that grows: that of an expression, the types of the registers, and where the
-/// labels that are known lead.
+/// The code of a function that grows: that of an expression, the types of the registers, the labels that are known, and
+/// the objects that live around it.
 #[derive(Drop)]
 pub struct Draft<'a> {
     function: u32,
-    variables: &'a [u32],
+    variables: &'a [Variable],
+    homed: bool,
     free: usize,
+    heap: usize,
+    literals: u32,
     instructions: Vec<Instruction>,
     registers: Vec<IntegerType>,
-    labels: Vec<Target>,
+    marks: Vec<Mark>,
 }
 
 impl<'a> Model for Draft<'a> {
-    ghost use Rattle.std.specs.Prelude.{◌+◌, length, reverse};
+    ghost use Rattle.std.specs.Prelude.{◌≡◌, ◌+◌, length, reverse};
+    ghost use Rattle.lowered_code.specs.Lowering.{have_homes};
     ghost use Rattle.code_draft.specs.Drafts.{Listed};
 
     ghost Value = { Listed };
 
-    ghost view = { λ d. record { frame = record { function = d.function; zeros = length d.variables.now; result = length d.variables.now + 1; free = d.free }; variables = d.variables.now; instructions = d.instructions.items; registers = d.registers.items; labels = reverse d.labels.items } };
+    ghost view = { λ d. record { frame = record { function = d.function; variables = d.variables.now; zeros = length d.variables.now; result = length d.variables.now + 1; free = d.free; heap = d.heap; literals = d.literals }; instructions = d.instructions.items; registers = d.registers.items; marks = reverse d.marks.items } };
+
+    ghost invariant = { λ d. d.homed ≡ have_homes d.variables.now };
 }
 
 fn jump(test: Option<usize>, count: usize) -> Operation
@@ -44,18 +56,28 @@ fn jump(test: Option<usize>, count: usize) -> Operation
 }
 
 impl<'a> Draft<'a> {
-    /// No code and no register yet.
-    pub fn new(alloc: Global, function: u32, variables: &'a [u32]) -> Draft<'a>
-        ensures { result ≡ record { frame = first_frame function variables.now; variables = variables.now; instructions = []; registers = []; labels = [] } }
+    /// No code and no register yet, over the number of the first literal's object and so many blocks for values on the way.
+    pub fn new(
+        alloc: Global,
+        function: u32,
+        variables: &'a [Variable],
+        temporaries: usize,
+        literals: u32,
+    ) -> Result<Draft<'a>, AllocError>
+        ensures { IfOk result (λ d. d ≡ record { frame = first_frame literals function variables.now temporaries; instructions = []; registers = []; marks = [] }) }
     {
-        Draft {
+        let free = variables.len() + 2;
+        Ok(Draft {
             function,
             variables,
-            free: variables.len() + 2,
+            homed: have_homes(variables),
+            free,
+            heap: more(free, temporaries)?,
+            literals,
             instructions: Vec::new(alloc),
             registers: Vec::new(alloc),
-            labels: Vec::new(alloc),
-        }
+            marks: Vec::new(alloc),
+        })
     }
 
     /// The number of the next register.
@@ -65,14 +87,55 @@ impl<'a> Draft<'a> {
         self.registers.len()
     }
 
+    /// The function's variables.
+    pub(crate) fn variables(&self) -> &'a [Variable]
+        ensures { result.now ≡ self.now.frame.variables }
+    {
+        self.variables
+    }
+
     /// The size of a variable.
     pub fn size_of(&self, variable: u32) -> u32
-        ensures { result ≡ size_of self.now.variables variable }
+        ensures { result ≡ size_of self.now.frame.variables variable }
     {
         match self.variables.get(variable as usize) {
-            Some(size) => *size,
+            Some(found) => found.size,
             None => 0,
         }
+    }
+
+    /// Whether it is defined `const`.
+    pub fn is_readonly(&self, variable: u32) -> bool
+        ensures { result ≡ is_readonly (slice_get self.now.frame.variables variable) }
+    {
+        match self.variables.get(variable as usize) {
+            Some(found) => found.readonly,
+            None => false,
+        }
+    }
+
+    /// The variable that holds its address, if it has one.
+    pub fn home_of(&self, variable: u32) -> Option<u32>
+        ensures { result ≡ home_in self.now.frame.variables variable }
+    {
+        home_in(self.variables, variable)
+    }
+
+    /// The number of a string literal's object. Code can't be had where it has none.
+    pub(crate) fn literal(&self, literal: u32) -> Result<u32, AllocError>
+        ensures { IfOk result (λ k. k ≡ self.now.frame.literals + literal) }
+    {
+        match self.literals.checked_add(literal) {
+            Some(object) => Ok(object),
+            None => Err(AllocError),
+        }
+    }
+
+    /// The number of the block in which objects are made.
+    pub(crate) fn heap(&self) -> usize
+        ensures { result ≡ self.now.frame.heap }
+    {
+        self.heap
     }
 
     /// The number of the block whose bytes stay 0.
@@ -90,7 +153,7 @@ impl<'a> Draft<'a> {
     }
 
     /// The number of the first block that is free.
-    pub(crate) fn free(&self) -> usize
+    pub fn free(&self) -> usize
         ensures { result ≡ self.now.frame.free }
     {
         self.free
@@ -111,6 +174,18 @@ impl<'a> Draft<'a> {
         let number = self.registers.len();
         self.registers.push(type_)?;
         Ok(number)
+    }
+
+    /// Takes one for the pointers to objects that die, in a function some of whose variables have addresses.
+    pub fn death_register(&mut self) -> Result<usize, AllocError>
+        ensures code { OnOk result (self.new ≡ added self.old [] (death_types self.old.frame.variables)) }
+        ensures number { IfOk result (λ r. r ≡ next self.old) }
+    {
+        if self.homed {
+            self.register(IntegerType::UnsignedLong)
+        } else {
+            Ok(self.registers.len())
+        }
     }
 
     /// Adds an instruction.
@@ -208,7 +283,7 @@ impl<'a> Draft<'a> {
         place: usize,
         made: &mut Vec<Node>,
     ) -> Result<(), AllocError>
-        ensures { OnOk result (nodes_of (reverse made.new.items) ≡ to_place self.now.frame self.now.variables line base place (nodes_of (reverse made.old.items))) }
+        ensures { OnOk result (nodes_of (reverse made.new.items) ≡ to_place self.now.frame line base place (nodes_of (reverse made.old.items))) }
     {
         let behind = more(base, made.len())?;
         let count = behind.saturating_sub(place);
@@ -248,37 +323,112 @@ impl<'a> Draft<'a> {
         Ok(())
     }
 
-    // ---- labels
+    // ---- labels, and objects that live
 
-    /// How many labels are known.
+    /// How many are known.
     pub fn known(&self) -> usize
-        ensures { result ≡ length self.now.labels }
+        ensures { result ≡ length self.now.marks }
     {
-        self.labels.len()
+        self.marks.len()
     }
 
     /// A label leads to this place.
     #[tactic(auto, using(crate::proofs::Making::reversed_more))]
     pub fn know(&mut self, label: u32, place: usize) -> Result<(), AllocError>
-        ensures { OnOk result (self.new ≡ record self.old { labels = target label place ∷ self.old.labels }) }
+        ensures { OnOk result (self.new ≡ record self.old { marks = marks.Label label place ∷ self.old.marks }) }
     {
-        self.labels.push(Target { label, place })?;
+        self.marks.push(Mark::Label { label, place })?;
         Ok(())
     }
 
-    /// The first labels alone are known.
+    /// The object lives whose address a variable has.
+    #[tactic(auto, using(crate::proofs::Making::reversed_more))]
+    pub fn live(&mut self, line: u32, home: u32) -> Result<(), AllocError>
+        ensures { OnOk result (self.new ≡ record self.old { marks = marks.Alive line home ∷ self.old.marks }) }
+    {
+        self.marks.push(Mark::Alive { line, home })?;
+        Ok(())
+    }
+
+    /// The first ones alone are known.
     #[tactic(auto, using(crate::proofs::Making::reversed_first))]
     pub fn forget(&mut self, known: usize)
-        ensures { self.new ≡ record self.old { labels = drop (length self.old.labels - known) self.old.labels } }
+        ensures { self.new ≡ record self.old { marks = drop (length self.old.marks - known) self.old.marks } }
     {
-        self.labels.truncate(known);
+        self.marks.truncate(known);
     }
 
     /// Where a label leads: to the end of the function where it is not known.
     pub fn place_of(&self, label: u32) -> usize
-        ensures { result ≡ place_of self.now.labels label }
+        ensures { result ≡ place_of self.now.marks label }
     {
-        find_label(&self.labels, label)
+        find_label(&self.marks, label)
+    }
+
+    // What is known, by its number, the first of which is 0.
+    #[tactic(auto, using(crate::proofs::Making::reversed_back))]
+    fn mark(&self, k: usize) -> Option<Mark>
+        ensures { result ≡ slice_get (reverse self.now.marks) k }
+    {
+        match self.marks.get(k) {
+            Some(mark) => Some(*mark),
+            None => None,
+        }
+    }
+
+    // The object whose address a variable has dies, by a register.
+    fn die(&mut self, line: u32, home: u32, register: usize) -> Result<(), AllocError>
+        ensures { OnOk result (self.new ≡ added self.old (death_code self.old.frame line (Some home) register) []) }
+    {
+        let operation = Operation::Load {
+            into: register,
+            type_: IntegerType::UnsignedLong,
+            block: home as usize,
+            offset: 0,
+        };
+        self.push(line, operation)?;
+        self.push(line, Operation::Die { pointer: register })
+    }
+
+    /// So many of the latest objects die, by a register.
+    pub fn leave(&mut self, count: usize, register: usize) -> Result<(), AllocError>
+        ensures { OnOk result (self.new ≡ added self.old (deaths_of self.old.frame self.old.marks count register) []) }
+    {
+        let mut left = count;
+        for k in (0..self.known()).rev() {
+            if left == 0 {
+                return Ok(());
+            }
+            match self.mark(k) {
+                Some(Mark::Label { .. }) => {}
+                Some(Mark::Alive { line, home }) => {
+                    self.die(line, home, register)?;
+                    left -= 1;
+                }
+                None => {}
+            }
+        }
+        Ok(())
+    }
+
+    /// Those die that live since a label is known, by a register.
+    pub fn leave_to(&mut self, label: u32, register: usize) -> Result<(), AllocError>
+        ensures { OnOk result (self.new ≡ added self.old (deaths_to self.old.frame self.old.marks label register) []) }
+    {
+        for k in (0..self.known()).rev() {
+            match self.mark(k) {
+                Some(Mark::Label { label: found, .. }) => {
+                    if found == label {
+                        return Ok(());
+                    }
+                }
+                Some(Mark::Alive { line, home }) => {
+                    self.die(line, home, register)?;
+                }
+                None => {}
+            }
+        }
+        Ok(())
     }
 
     /// The types of the registers.
@@ -308,14 +458,31 @@ fn put_nodes(code: &[Instruction], made: &mut Vec<Node>) -> Result<(), AllocErro
     Ok(())
 }
 
-// Where a label leads, by the last of these that has its number.
-fn find_label(labels: &[Target], label: u32) -> usize
-    ensures { result ≡ place_of (reverse labels.now) label }
+// Whether some of the variables have addresses.
+fn have_homes(variables: &[Variable]) -> bool
+    ensures { result ≡ have_homes variables.now }
 {
-    for k in (0..labels.len()).rev() {
-        let target = labels[k];
-        if target.label == label {
-            return target.place;
+    for variable in variables {
+        if variable.home.is_some() {
+            return true;
+        }
+    }
+    false
+}
+
+// Where a label leads, by the last of these that has its number.
+fn find_label(known: &[Mark], label: u32) -> usize
+    ensures { result ≡ place_of (reverse known.now) label }
+{
+    for k in (0..known.len()).rev() {
+        if let Mark::Label {
+            label: found,
+            place,
+        } = known[k]
+        {
+            if found == label {
+                return place;
+            }
         }
     }
     2

@@ -1,23 +1,23 @@
 //! The code of expressions.
 
 ghost use Rattle.std.specs.Prelude.{◌≡◌, [], ◌∷◌, ◌+◌, ◌<◌, IfOk, OnOk};
-ghost use Rattle.c_types.specs.Integers.{promoted};
-ghost use Rattle.core_tree.specs.Trees.{Expression, view, constant, read, convert, sign, is_zero, arithmetic, compare, logical, choice, assign, update, step, comma, assertion, assumption, draw, part, discard, discard_structure, call, view_place, view_structure, arguments_of, with_argument, Arguments};
-ghost use Rattle.c_meaning.specs.Meaning.{integer_of};
+ghost use Rattle.core_tree.specs.Trees as trees;
+ghost use Rattle.core_tree.specs.Trees.{Expression, view, constant, read, convert, sign, is_zero, arithmetic, compare, logical, choice, assign, update, step, comma, assertion, assumption, draw, part, discard, discard_structure, call, view_structure, arguments_of, with_argument, Arguments};
+ghost use Rattle.c_meaning.specs.Meaning.{integer_of, place_line};
 ghost use Rattle.goto_prog.specs.declared.code.Operation.TheVariants as instructions;
 ghost use Rattle.c_temporaries.specs.Temporaries.{value_size};
-ghost use Rattle.lowered_code.specs.Lowering.{at_line, argument_count, write_code, update_code, truth_code, use_code, taken_code};
-ghost use Rattle.lowered_code.specs.Registers.{update_types};
-ghost use Rattle.code_draft.specs.Drafts.{Listed, next, added, operand, Lowers, after_arguments, after_passed};
+ghost use Rattle.lowered_code.specs.Lowering.{at_line, argument_count, truth_code, use_code, taken_code};
+ghost use Rattle.code_draft.specs.Drafts.{Listed, next, added, operand, Reaches, Lowers, after_arguments, after_passed};
 
+use crate::accesses::line_of_place;
 use crate::draft::Draft;
-use crate::operand::{Operand, Passed, Updated, step_value};
+use crate::operand::{Operand, Passed, Way, step_value};
 use crate::places::more;
 use crate::structures::line_of_structure;
 use c_temporaries::value_size;
 use c_types::{IntegerType, ValueType, promote};
 use core_tree::{
-    ArithmeticOperator, Comparison, CoreArgument, CoreExpr, CoreStructure, LogicalOperator, Place,
+    ArithmeticOperator, Comparison, CoreArgument, CoreExpr, CoreStructure, LogicalOperator,
     SignOperator, StepOperator, drawn_width, step_operation,
 };
 use goto_prog::Operation;
@@ -31,7 +31,12 @@ fn comma(line: u32, y: Operand) -> Operand
 }
 
 impl<'a> Draft<'a> {
-    fn constant(&mut self, line: u32, type_: IntegerType, bits: u64) -> Result<Operand, AllocError>
+    pub(crate) fn constant(
+        &mut self,
+        line: u32,
+        type_: IntegerType,
+        bits: u64,
+    ) -> Result<Operand, AllocError>
         ensures { IfOk result (λ x. Lowers self.old self.new (constant line type_ bits) x) }
     {
         let into = self.next();
@@ -47,113 +52,10 @@ impl<'a> Draft<'a> {
     }
 
     // The number of this type at a place.
-    fn load(&mut self, type_: IntegerType, place: &Place) -> Result<Operand, AllocError>
-        ensures { IfOk result (λ x. Lowers self.old self.new (read type_ (view_place place.now)) x) }
+    fn read(&mut self, line: u32, type_: IntegerType, way: Way) -> Result<Operand, AllocError>
+        ensures { (old : Listed) (x : trees.Place) → line ≡ place_line x → Reaches old self.old x way → IfOk result (λ y. Lowers old self.new (read type_ x) y) }
     {
-        match place {
-            Place::Variable {
-                line,
-                variable,
-                offset,
-            } => {
-                let operation = Operation::Load {
-                    into: self.next(),
-                    type_,
-                    block: *variable as usize,
-                    offset: *offset,
-                };
-                self.set(*line, type_, operation)
-            }
-            Place::Object {
-                line,
-                object,
-                offset,
-            } => {
-                let block = self.free();
-                self.push(
-                    *line,
-                    Operation::ReadObject {
-                        block,
-                        at: 0,
-                        object: *object,
-                        offset: *offset,
-                        count: type_.size(),
-                    },
-                )?;
-                let operation = Operation::Load {
-                    into: self.next(),
-                    type_,
-                    block,
-                    offset: 0,
-                };
-                self.set(*line, type_, operation)
-            }
-            Place::Literal { line, .. } => self.constant(*line, type_, 0),
-            Place::Pointed { line, .. } => self.constant(*line, type_, 0),
-            Place::Arrow { line, .. } => self.constant(*line, type_, 0),
-            Place::Member { line, .. } => self.constant(*line, type_, 0),
-            Place::Element { line, .. } => self.constant(*line, type_, 0),
-            Place::Subscript { line, .. } => self.constant(*line, type_, 0),
-        }
-    }
-
-    // A write of a register into a place of this type.
-    #[tactic(auto, using(crate::proofs::Drafting::nothing_added))]
-    fn store(
-        &mut self,
-        line: u32,
-        type_: IntegerType,
-        place: &Place,
-        operand: usize,
-    ) -> Result<(), AllocError>
-        ensures { OnOk result (self.new ≡ added self.old (write_code self.old.frame line type_ (view_place place.now) operand) []) }
-    {
-        match place {
-            Place::Variable {
-                variable,
-                offset,
-                ..
-            } => {
-                self.push(
-                    line,
-                    Operation::Store {
-                        block: *variable as usize,
-                        offset: *offset,
-                        count: type_.size(),
-                        operand,
-                    },
-                )
-            }
-            Place::Object { object, offset, .. } => {
-                let block = self.free();
-                let count = type_.size();
-                self.push(
-                    line,
-                    Operation::Store {
-                        block,
-                        offset: 0,
-                        count,
-                        operand,
-                    },
-                )?;
-                self.push(
-                    line,
-                    Operation::WriteObject {
-                        object: *object,
-                        offset: *offset,
-                        block,
-                        at: 0,
-                        count,
-                    },
-                )
-            }
-            Place::Literal { .. } => Ok(()),
-            Place::Pointed { .. } => Ok(()),
-            Place::Arrow { .. } => Ok(()),
-            Place::Member { .. } => Ok(()),
-            Place::Element { .. } => Ok(()),
-            Place::Subscript { .. } => Ok(()),
-        }
+        self.load(line, type_, way)
     }
 
     // ---- behind one operand
@@ -196,12 +98,12 @@ impl<'a> Draft<'a> {
         &mut self,
         line: u32,
         type_: IntegerType,
-        place: &Place,
+        way: Way,
         x: Operand,
     ) -> Result<Operand, AllocError>
-        ensures { (old : Listed) (e : Expression) → Lowers old self.old e x → IfOk result (λ y. Lowers old self.new (assign line type_ (view_place place.now) e) y) }
+        ensures { (old mid : Listed) (p : trees.Place) (e : Expression) → Reaches old mid p way → Lowers mid self.old e x → IfOk result (λ y. Lowers old self.new (assign line type_ p e) y) }
     {
-        self.store(line, type_, place, x.register)?;
+        self.store(line, type_, way, x.register)?;
         Ok(Operand {
             register: x.register,
             type_,
@@ -209,63 +111,20 @@ impl<'a> Draft<'a> {
         })
     }
 
-    // The number of type `type_` at the place, an operation of type `by` with it and `y`, and the result back
-    // into the place.
-    fn update_by(
-        &mut self,
-        line: u32,
-        type_: IntegerType,
-        place: &Place,
-        operator: ArithmeticOperator,
-        by: IntegerType,
-        y: Operand,
-    ) -> Result<Updated, AllocError>
-        ensures code { OnOk result (self.new ≡ added self.old (update_code self.old.frame line type_ (view_place place.now) operator by y.type_ y.register (next self.old)) (update_types type_ by)) }
-        ensures registers { IfOk result (λ u. u ≡ record { old = next self.old; new = next self.old + 3 }) }
-    {
-        let loaded = self.load(type_, place)?;
-        let operation = Operation::Convert {
-            into: self.next(),
-            from: loaded.type_,
-            to: by,
-            operand: loaded.register,
-        };
-        let left = self.set(line, by, operation)?;
-        let operation = Operation::Arithmetic {
-            into: self.next(),
-            operator,
-            type_: by,
-            right_type: y.type_,
-            left: left.register,
-            right: y.register,
-        };
-        let value = self.set(line, by, operation)?;
-        let operation = Operation::Convert {
-            into: self.next(),
-            from: by,
-            to: loaded.type_,
-            operand: value.register,
-        };
-        let back = self.set(line, loaded.type_, operation)?;
-        self.store(line, type_, place, back.register)?;
-        Ok(Updated {
-            old: loaded.register,
-            new: back.register,
-        })
-    }
-
+    // The place is read at the line `at`.
     fn update(
         &mut self,
+        at: u32,
         line: u32,
         type_: IntegerType,
-        place: &Place,
+        way: Way,
         operator: ArithmeticOperator,
         by: IntegerType,
         y: Operand,
     ) -> Result<Operand, AllocError>
-        ensures { (old : Listed) (e : Expression) → Lowers old self.old e y → IfOk result (λ x. Lowers old self.new (update line type_ (view_place place.now) operator by e) x) }
+        ensures { (old mid : Listed) (p : trees.Place) (e : Expression) → at ≡ place_line p → Reaches old mid p way → Lowers mid self.old e y → IfOk result (λ x. Lowers old self.new (update line type_ p operator by e) x) }
     {
-        let updated = self.update_by(line, type_, place, operator, by, y)?;
+        let updated = self.update_by(at, line, type_, way, operator, by, y)?;
         Ok(Operand {
             register: updated.new,
             type_,
@@ -273,19 +132,29 @@ impl<'a> Draft<'a> {
         })
     }
 
+    // So is it here.
     fn step(
         &mut self,
+        at: u32,
         line: u32,
         type_: IntegerType,
-        place: &Place,
+        way: Way,
         operator: StepOperator,
         before: bool,
     ) -> Result<Operand, AllocError>
-        ensures { IfOk result (λ x. Lowers self.old self.new (step line type_ (view_place place.now) operator before) x) }
+        ensures { (old : Listed) (p : trees.Place) → at ≡ place_line p → Reaches old self.old p way → IfOk result (λ x. Lowers old self.new (step line type_ p operator before) x) }
     {
         let promoted = promote(type_);
         let one = self.constant(line, promoted, 1)?;
-        let updated = self.update_by(line, type_, place, step_operation(operator), promoted, one)?;
+        let updated = self.update_by(
+            at,
+            line,
+            type_,
+            way,
+            step_operation(operator),
+            promoted,
+            one,
+        )?;
         let operation = Operation::Copy {
             into: self.next(),
             operand: step_value(updated, before),
@@ -597,7 +466,10 @@ impl<'a> Draft<'a> {
     {
         match expr {
             CoreExpr::Constant { line, type_, bits } => self.constant(*line, *type_, *bits),
-            CoreExpr::Read { type_, place } => self.load(*type_, place),
+            CoreExpr::Read { type_, place } => {
+                let way = self.reach(place)?;
+                self.read(line_of_place(place), *type_, way)
+            }
             CoreExpr::Convert { to, operand } => {
                 let x = self.expression(operand)?;
                 self.convert(*to, x)
@@ -661,8 +533,9 @@ impl<'a> Draft<'a> {
                 place,
                 value,
             } => {
+                let way = self.reach(place)?;
                 let x = self.expression(value)?;
-                self.assign(*line, *type_, place, x)
+                self.assign(*line, *type_, way, x)
             }
             CoreExpr::Update {
                 line,
@@ -672,8 +545,10 @@ impl<'a> Draft<'a> {
                 operand,
                 value,
             } => {
+                let way = self.reach(place)?;
                 let x = self.expression(value)?;
-                self.update(*line, *type_, place, *operator, *operand, x)
+                let at = line_of_place(place);
+                self.update(at, *line, *type_, way, *operator, *operand, x)
             }
             CoreExpr::Step {
                 line,
@@ -681,7 +556,11 @@ impl<'a> Draft<'a> {
                 place,
                 operator,
                 before,
-            } => { self.step(*line, *type_, place, *operator, *before) }
+            } => {
+                let way = self.reach(place)?;
+                let at = line_of_place(place);
+                self.step(at, *line, *type_, way, *operator, *before)
+            }
             CoreExpr::Comma { line, left, right } => {
                 let _x = self.expression(left)?;
                 let y = self.expression(right)?;
@@ -721,29 +600,73 @@ impl<'a> Draft<'a> {
             CoreExpr::SizeOfStructure { line, bits, .. } => {
                 self.constant(*line, IntegerType::UnsignedLong, *bits)
             }
-            CoreExpr::Address { line, .. } => self.constant(*line, IntegerType::UnsignedLong, 0),
-            CoreExpr::Sum { line, .. } => self.constant(*line, IntegerType::UnsignedLong, 0),
-            CoreExpr::Distance { line, .. } => self.constant(*line, IntegerType::Long, 0),
-            CoreExpr::Relation { line, .. } => self.constant(*line, IntegerType::Int, 0),
-            CoreExpr::PointerUpdate { line, .. } => self.constant(
-                *line,
-                IntegerType::UnsignedLong,
-                0,
-            ),
-            CoreExpr::PointerStep { line, .. } => self.constant(
-                *line,
-                IntegerType::UnsignedLong,
-                0,
-            ),
-            CoreExpr::Allocate { line, .. } => self.constant(*line, IntegerType::UnsignedLong, 0),
-            CoreExpr::AllocateZeroed { line, .. } => self.constant(
-                *line,
-                IntegerType::UnsignedLong,
-                0,
-            ),
-            CoreExpr::Release { line, .. } => self.constant(*line, IntegerType::Int, 0),
-            CoreExpr::Exit { line, .. } => self.constant(*line, IntegerType::Int, 0),
-            CoreExpr::Abort { line } => self.constant(*line, IntegerType::Int, 0),
+            CoreExpr::Address { line, place } => self.address(*line, place),
+            CoreExpr::Sum {
+                line,
+                pointer,
+                index,
+                step,
+                swapped,
+            } => self.sum(*line, pointer, index, *step, *swapped),
+            CoreExpr::Distance {
+                line,
+                left,
+                right,
+                step,
+            } => {
+                let x = self.expression(left)?;
+                let y = self.expression(right)?;
+                self.distance(*line, *step, x, y)
+            }
+            CoreExpr::Relation {
+                line,
+                operator,
+                left,
+                right,
+            } => {
+                let x = self.expression(left)?;
+                let y = self.expression(right)?;
+                self.relation(*line, *operator, x, y)
+            }
+            CoreExpr::PointerUpdate {
+                line,
+                place,
+                step,
+                value,
+            } => {
+                let way = self.reach(place)?;
+                let x = self.expression(value)?;
+                let at = line_of_place(place);
+                self.pointer_update(at, *line, way, *step, x)
+            }
+            CoreExpr::PointerStep {
+                line,
+                place,
+                step,
+                before,
+            } => {
+                let way = self.reach(place)?;
+                let at = line_of_place(place);
+                self.pointer_step(at, *line, way, *step, *before)
+            }
+            CoreExpr::Allocate { line, size } => {
+                let x = self.expression(size)?;
+                self.allocate(*line, x)
+            }
+            CoreExpr::AllocateZeroed { line, count, size } => {
+                let x = self.expression(count)?;
+                let y = self.expression(size)?;
+                self.allocate_zeroed(*line, x, y)
+            }
+            CoreExpr::Release { line, pointer } => {
+                let x = self.expression(pointer)?;
+                self.release(*line, x)
+            }
+            CoreExpr::Exit { line, status } => {
+                let x = self.expression(status)?;
+                self.exit(*line, x)
+            }
+            CoreExpr::Abort { line } => self.abort(*line),
         }
     }
 }

@@ -2,12 +2,15 @@
 //! is put before the nodes of what stands behind it.
 #![tactic(auto)]
 
+mod accesses;
+mod allocations;
 mod draft;
 mod expressions;
 mod operand;
 mod places;
+mod pointers;
 mod structures;
 
 pub use draft::Draft;
 pub use operand::Operand;
-pub use places::{Target, more};
+pub use places::{Mark, more};

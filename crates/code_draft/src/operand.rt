@@ -1,7 +1,8 @@
-//! Where the value of an expression lies.
+//! Where the value of an expression lies, and where a place is.
 
 ghost use Rattle.std.specs.Prelude.{◌≡◌, if◌then◌else◌};
 
+use c_temporaries::Access;
 use c_types::IntegerType;
 
 /// The register that has the value of an expression, the type of the value, and the line of the
@@ -11,6 +12,13 @@ pub struct Operand {
     pub register: usize,
     pub type_: IntegerType,
     pub line: u32,
+}
+
+/// How a place is reached, and the register that tells where it is, where that is evaluated.
+#[derive(Clone, Copy)]
+pub(crate) struct Way {
+    pub(crate) access: Access,
+    pub(crate) pointer: usize,
 }
 
 /// The registers of a place's number before an operation on it and behind it.

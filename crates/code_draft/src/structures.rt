@@ -1,34 +1,18 @@
 //! The code of structure values, which are written into a block from an offset on.
 
 ghost use Rattle.std.specs.Prelude.{◌≡◌, [], ◌∷◌, ◌+◌, IfOk, OnOk};
-ghost use Rattle.core_tree.specs.Trees.{Parts, view_place, view_structure, parts_of, with_part};
-ghost use Rattle.c_meaning.specs.Meaning.{place_line};
-ghost use Rattle.lowered_code.specs.Lowering.{at_line, structure_line, fetch_code, put_code};
+ghost use Rattle.core_tree.specs.Trees.{Parts, copy, view_place, view_structure, parts_of, with_part};
+ghost use Rattle.lowered_code.specs.Lowering.{at_line, structure_line};
 ghost use Rattle.code_draft.specs.Drafts.{next, added, after_structure, after_temporary, after_parts, after_text};
 ghost use Rattle.goto_prog.specs.declared.code.Operation.TheVariants as operations;
 ghost use Rattle.c_types.specs.declared.integers.IntegerType.TheVariants.{UnsignedChar};
 
+use crate::accesses::line_of_place;
 use crate::draft::Draft;
 use c_types::IntegerType;
 use core_tree::{CorePart, CoreStructure, Place, structure_size};
 use goto_prog::Operation;
 use std::alloc::AllocError;
-
-// The line of a place's own token.
-fn line_of_place(place: &Place) -> u32
-    ensures { result ≡ place_line (view_place place.now) }
-{
-    match place {
-        Place::Variable { line, .. } => *line,
-        Place::Object { line, .. } => *line,
-        Place::Literal { line, .. } => *line,
-        Place::Pointed { line, .. } => *line,
-        Place::Arrow { line, .. } => *line,
-        Place::Member { line, .. } => *line,
-        Place::Element { line, .. } => *line,
-        Place::Subscript { line, .. } => *line,
-    }
-}
 
 /// The line of a structure value's own token.
 pub(crate) fn line_of_structure(structure: &CoreStructure) -> u32
@@ -80,101 +64,19 @@ impl<'a> Draft<'a> {
         )
     }
 
-    // So many bytes of a place, into a block.
-    #[tactic(auto, using(crate::proofs::Drafting::nothing_added))]
-    fn fetch(&mut self, place: &Place, size: u32, into: usize, at: u32) -> Result<(), AllocError>
-        ensures { OnOk result (self.new ≡ added self.old (fetch_code self.old.frame (view_place place.now) size into at) []) }
-    {
-        match place {
-            Place::Variable {
-                line,
-                variable,
-                offset,
-            } => {
-                self.push(
-                    *line,
-                    Operation::CopyBytes {
-                        into,
-                        at,
-                        from: *variable as usize,
-                        offset: *offset,
-                        count: size,
-                    },
-                )
-            }
-            Place::Object {
-                line,
-                object,
-                offset,
-            } => {
-                self.push(
-                    *line,
-                    Operation::ReadObject {
-                        block: into,
-                        at,
-                        object: *object,
-                        offset: *offset,
-                        count: size,
-                    },
-                )
-            }
-            Place::Literal { .. } => Ok(()),
-            Place::Pointed { .. } => Ok(()),
-            Place::Arrow { .. } => Ok(()),
-            Place::Member { .. } => Ok(()),
-            Place::Element { .. } => Ok(()),
-            Place::Subscript { .. } => Ok(()),
-        }
-    }
-
-    // So many bytes of a block, into a place.
-    #[tactic(auto, using(crate::proofs::Drafting::nothing_added))]
-    fn put_bytes(
+    // The bytes of a place, into a block.
+    #[cycle(expression)]
+    fn read_structure(
         &mut self,
-        line: u32,
         place: &Place,
         size: u32,
-        from: usize,
+        into: usize,
         at: u32,
     ) -> Result<(), AllocError>
-        ensures { OnOk result (self.new ≡ added self.old (put_code self.old.frame line (view_place place.now) size from at) []) }
+        ensures { OnOk result (self.new ≡ after_structure self.old (copy (view_place place.now) size) into at) }
     {
-        match place {
-            Place::Variable {
-                variable,
-                offset,
-                ..
-            } => {
-                self.push(
-                    line,
-                    Operation::CopyBytes {
-                        into: *variable as usize,
-                        at: *offset,
-                        from,
-                        offset: at,
-                        count: size,
-                    },
-                )
-            }
-            Place::Object { object, offset, .. } => {
-                self.push(
-                    line,
-                    Operation::WriteObject {
-                        object: *object,
-                        offset: *offset,
-                        block: from,
-                        at,
-                        count: size,
-                    },
-                )
-            }
-            Place::Literal { .. } => Ok(()),
-            Place::Pointed { .. } => Ok(()),
-            Place::Arrow { .. } => Ok(()),
-            Place::Member { .. } => Ok(()),
-            Place::Element { .. } => Ok(()),
-            Place::Subscript { .. } => Ok(()),
-        }
+        let way = self.reach(place)?;
+        self.fetch(line_of_place(place), way, size, into, at)
     }
 
     // The bytes of a string, by a register.
@@ -254,7 +156,7 @@ impl<'a> Draft<'a> {
         ensures { OnOk result (self.new ≡ after_structure self.old (view_structure structure.now) into at) }
     {
         match structure {
-            CoreStructure::Read { place, size } => self.fetch(place, *size, into, at),
+            CoreStructure::Read { place, size } => self.read_structure(place, *size, into, at),
             CoreStructure::Choice {
                 line,
                 test,
@@ -271,8 +173,9 @@ impl<'a> Draft<'a> {
                 Ok(())
             }
             CoreStructure::Assign { line, place, value } => {
+                let way = self.reach(place)?;
                 self.structure(value, into, at)?;
-                self.put_bytes(*line, place, structure_size(value), into, at)
+                self.put_bytes(*line, way, structure_size(value), into, at)
             }
             CoreStructure::Comma { left, right, .. } => {
                 let _left = self.expression(left)?;

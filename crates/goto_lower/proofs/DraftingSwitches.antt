@@ -33,18 +33,18 @@ pub case_types_added : (d new : Listed) (line bits : ℕ) (t : IntegerType) (res
 case_types_added d new line bits t rest same = typed_more d new (t ∷ Int ∷ Int ∷ t ∷ Int ∷ []) (case_types rest) same
 
 pub last_case_added : (d new : Listed) (line bits before r : ℕ) (t : IntegerType) (rest : Items) → new ≡ typed d (t ∷ Int ∷ Int ∷ t ∷ Int ∷ []) → r ≡ next d + 2
-    → last_case new.frame new.variables r rest (next new) ≡ last_case d.frame d.variables before (case_at line t bits rest) (next d)
+    → last_case new.frame r rest (next new) ≡ last_case d.frame before (case_at line t bits rest) (next d)
 last_case_added d new line bits before r t rest same is_r =
     let at : next new ≡ next d + 5 = next_typed d new (t ∷ Int ∷ Int ∷ t ∷ Int ∷ []) same in
-    λ i. last_case (same i).frame (same i).variables (is_r i) rest (at i)
+    λ i. last_case (same i).frame (is_r i) rest (at i)
 
 -- the test of a case and those behind it
 pub test_adds : (d new : Listed) (line at x before n bits : ℕ) (t : IntegerType) (rest : Items)
     → new ≡ added d (case_code d.frame at t bits x before n) []
     → after_tests new line x (n + 2) rest (n + 5) ≡ after_tests d line x before (case_at at t bits rest) n
 test_adds d new line at x before n bits t rest same =
-    adds_more d new (after_tests new line x (n + 2) rest (n + 5)) (case_code d.frame at t bits x before n) (case_tests d.frame d.variables line x (n + 2) rest (n + 5)) [] [] same
-    (λ i. added new (case_tests (same i).frame (same i).variables line x (n + 2) rest (n + 5)) [])
+    adds_more d new (after_tests new line x (n + 2) rest (n + 5)) (case_code d.frame at t bits x before n) (case_tests d.frame line x (n + 2) rest (n + 5)) [] [] same
+    (λ i. added new (case_tests (same i).frame line x (n + 2) rest (n + 5)) [])
 
 -- what stands at a place doesn't hang on what is said for those that aren't there
 pub either_default : {A : Type 0} (xs : List A) (k : ℕ) (d e : A) → k < length xs → get_or xs k d ≡ get_or xs k e
@@ -53,22 +53,22 @@ either_default (x ∷ xs) zero d e h = refl
 either_default (x ∷ xs) (suc k) d e h = either_default xs k d e (omega (arith, h))
 
 -- one jump more in front of those to the cases behind it
-pub jumps_more : (frame : Frame) (variables : List ℕ) (base x n m : ℕ) (places : List CasePlace) (k : ℕ) (c : CasePlace) (before now others : Nodes)
+pub jumps_more : (frame : Frame) (base x n m : ℕ) (places : List CasePlace) (k : ℕ) (c : CasePlace) (before now others : Nodes)
     → k < length places → c ≡ get_or places k c → m ≡ n + 5
-    → before ≡ jumps_to frame variables base x m (reverse (take k places)) others
-    → now ≡ jump_code frame variables base x n c before
-    → now ≡ jumps_to frame variables base x n (reverse (take (k + 1) places)) others
-jumps_more frame variables base x n m places k c before now others lt is is_m so_far same =
+    → before ≡ jumps_to frame base x m (reverse (take k places)) others
+    → now ≡ jump_code frame base x n c before
+    → now ≡ jumps_to frame base x n (reverse (take (k + 1) places)) others
+jumps_more frame base x n m places k c before now others lt is is_m so_far same =
     let back : reverse (take (k + 1) places) ≡ c ∷ reverse (take k places) =
     ap reverse (take_more places k c lt) ∙ reversed_more (take k places) (get_or places k c) ∙ (λ i. sym is i ∷ reverse (take k places)) in
     same
-    ∙ (λ i. jump_code frame variables base x n c (so_far i))
-    ∙ (λ i. jump_code frame variables base x n c (jumps_to frame variables base x (is_m i) (reverse (take k places)) others))
-    ∙ sym (λ i. jumps_to frame variables base x n (back i) others)
+    ∙ (λ i. jump_code frame base x n c (so_far i))
+    ∙ (λ i. jump_code frame base x n c (jumps_to frame base x (is_m i) (reverse (take k places)) others))
+    ∙ sym (λ i. jumps_to frame base x n (back i) others)
 
-pub jumps_all : (frame : Frame) (variables : List ℕ) (base x n : ℕ) (places : List CasePlace) (k : ℕ) (now others : Nodes)
-    → length places ≤ k → now ≡ jumps_to frame variables base x n (reverse (take k places)) others → now ≡ jumps_to frame variables base x n (reverse places) others
-jumps_all frame variables base x n places k now others past so_far = so_far ∙ (λ i. jumps_to frame variables base x n (reverse (take_all k places past i)) others)
+pub jumps_all : (frame : Frame) (base x n : ℕ) (places : List CasePlace) (k : ℕ) (now others : Nodes)
+    → length places ≤ k → now ≡ jumps_to frame base x n (reverse (take k places)) others → now ≡ jumps_to frame base x n (reverse places) others
+jumps_all frame base x n places k now others past so_far = so_far ∙ (λ i. jumps_to frame base x n (reverse (take_all k places past i)) others)
 
 -- ---- the items from a place on
 
@@ -86,18 +86,18 @@ tests_whole d all line x before xs i n past same =
 module _ (d d1 d2 : Listed) (items : Items) (line before x : ℕ) (empty : d.instructions ≡ [])
     (first : d1 ≡ added d (at_line d.frame line (operations.Constant before 0) ∷ []) []) (second : d2 ≡ after_tests d1 line x before items (x + 1)) where
   abbrev tests_of : List Instruction
-  tests_of = at_line d.frame line (operations.Constant before 0) ∷ case_tests d.frame d.variables line x before items (x + 1)
+  tests_of = at_line d.frame line (operations.Constant before 0) ∷ case_tests d.frame line x before items (x + 1)
 
   tests_added : d2 ≡ added d tests_of []
   tests_added =
-      adds_more d d1 d2 (at_line d.frame line (operations.Constant before 0) ∷ []) (case_tests d.frame d.variables line x before items (x + 1)) [] [] first
-      (second ∙ (λ i. added d1 (case_tests (first i).frame (first i).variables line x before items (x + 1)) []))
+      adds_more d d1 d2 (at_line d.frame line (operations.Constant before 0) ∷ []) (case_tests d.frame line x before items (x + 1)) [] [] first
+      (second ∙ (λ i. added d1 (case_tests (first i).frame line x before items (x + 1)) []))
 
   pub unmet_draft : (new : Listed) → new ≡ flushed d2 → new ≡ d
   unmet_draft new last = flushed_draft d d2 new tests_of [] empty tests_added last ∙ typed_nothing d
 
   pub unmet_nodes : (last count k : ℕ) (entered n1 now : Nodes) → k ≡ node_count entered - count → n1 ≡ plain (at_line d.frame line (operations.SkipIfZero last k)) entered
-      → now ≡ plains d2.instructions n1 → last ≡ last_case d.frame d.variables before items (x + 1) → now ≡ guarded d.frame d.variables line before x items (x + 1) count entered
+      → now ≡ plains d2.instructions n1 → last ≡ last_case d.frame before items (x + 1) → now ≡ guarded d.frame line before x items (x + 1) count entered
   unmet_nodes last count k entered n1 now is_k skipped filled is_last =
       flushed_code d d2 tests_of [] n1 now empty tests_added filled
       ∙ ap (plains tests_of) skipped
@@ -107,13 +107,13 @@ module _ (d d1 d2 : Listed) (items : Items) (line before x : ℕ) (empty : d.ins
 
 pub way_adds : (d d1 d2 d3 d4 d5 : Listed) (items : Items) (t : IntegerType) (base before value : ℕ) (places : List CasePlace) (body n1 n2 : Nodes)
     → d.instructions ≡ [] → d1 ≡ added d [] (Int ∷ []) → before ≡ next d → d2 ≡ added d1 [] (t ∷ []) → value ≡ next d1 → d3 ≡ typed d2 (case_types items)
-    → ((first : ℕ) → next d3 ≡ first + 5 * length places → n1 ≡ jumps_to d3.frame d3.variables base value first (reverse places) body)
+    → ((first : ℕ) → next d3 ≡ first + 5 * length places → n1 ≡ jumps_to d3.frame base value first (reverse places) body)
     → d4 ≡ after_entry d3 items → n2 ≡ plains d4.instructions n1 → d5 ≡ flushed d4
-    → (d5 ≡ typed d (Int ∷ t ∷ (case_types items ++ entry_types d.variables items)))
-    × (5 * length places ≡ length (case_types items) → n2 ≡ way_code d.frame d.variables base (next d + 1) items places body)
+    → (d5 ≡ typed d (Int ∷ t ∷ (case_types items ++ entry_types d.frame.variables items)))
+    × (5 * length places ≡ length (case_types items) → n2 ≡ way_code d.frame base (next d + 1) items places body)
 way_adds d d1 d2 d3 d4 d5 items t base before value places body n1 n2 empty first is_before second is_value third jumps fourth filled last =
     let f = d.frame in
-    let vs = d.variables in
+    let vs = d.frame.variables in
     let n = next d in
     let ts = case_types items in
     let us = entry_types vs items in
@@ -123,34 +123,34 @@ way_adds d d1 d2 d3 d4 d5 items t base before value places body n1 n2 empty firs
     let three : d3 ≡ typed d (Int ∷ t ∷ ts) = third ∙ typed_more d d2 (Int ∷ t ∷ []) ts two in
     let in_entry = n + 1 + 1 + case_registers vs items in
     let next3 : next d3 ≡ in_entry = omega (arith, next_typed d d3 (Int ∷ t ∷ ts) three, case_length vs items) in
-    let entry : d4 ≡ added d3 (entry_code f vs items in_entry) us = fourth ∙ (λ i. added d3 (entry_code (three i).frame (three i).variables items (next3 i)) (entry_types (three i).variables items)) in
+    let entry : d4 ≡ added d3 (entry_code f items in_entry) us = fourth ∙ (λ i. added d3 (entry_code (three i).frame items (next3 i)) (entry_types (three i).frame.variables items)) in
     let empty3 : d3.instructions ≡ [] = (λ i. (three i).instructions) ∙ empty in (
-      flushed_draft d3 d4 d5 (entry_code f vs items in_entry) us empty3 entry last ∙ typed_more d d3 (Int ∷ t ∷ ts) us three,
+      flushed_draft d3 d4 d5 (entry_code f items in_entry) us empty3 entry last ∙ typed_more d d3 (Int ∷ t ∷ ts) us three,
       λ long.
-          (let jumped : n1 ≡ jumps_to f vs base (n + 1) (n + 1 + 1) (reverse places) body =
+          (let jumped : n1 ≡ jumps_to f base (n + 1) (n + 1 + 1) (reverse places) body =
           jumps (n + 1 + 1) (omega (arith, next3, long, case_length vs items))
-          ∙ (λ i. jumps_to (three i).frame (three i).variables base ((is_value ∙ next1) i) (n + 1 + 1) (reverse places) body) in
-          flushed_code d3 d4 (entry_code f vs items in_entry) us n1 n2 empty3 entry filled ∙ ap (plains (entry_code f vs items in_entry)) jumped),
+          ∙ (λ i. jumps_to (three i).frame base ((is_value ∙ next1) i) (n + 1 + 1) (reverse places) body) in
+          flushed_code d3 d4 (entry_code f items in_entry) us n1 n2 empty3 entry filled ∙ ap (plains (entry_code f items in_entry)) jumped),
     )
 
 -- the last of the registers that tell whether a case is met
 pub last_is : (d d1 d2 : Listed) (items : Items) (t : IntegerType) (before last : ℕ) → d1 ≡ added d [] (Int ∷ []) → before ≡ next d → d2 ≡ added d1 [] (t ∷ [])
-    → last ≡ last_case d2.frame d2.variables before items (next d2) → last ≡ last_case d.frame d.variables (next d) items (next d + 1 + 1)
+    → last ≡ last_case d2.frame before items (next d2) → last ≡ last_case d.frame (next d) items (next d + 1 + 1)
 last_is d d1 d2 items t before last first is_before second is_last =
     let one : d1 ≡ typed d (Int ∷ []) = typed_added d d1 (Int ∷ []) first in
     let two : d2 ≡ typed d (Int ∷ t ∷ []) = typed_added d1 d2 (t ∷ []) second ∙ typed_more d d1 (Int ∷ []) (t ∷ []) one in
     let next2 : next d2 ≡ next d + 1 + 1 = omega (arith, next_typed d d2 (Int ∷ t ∷ []) two) in
-    is_last ∙ (λ i. last_case (two i).frame (two i).variables (is_before i) items (next2 i))
+    is_last ∙ (λ i. last_case (two i).frame (is_before i) items (next2 i))
 
 -- where it is passed over, and where it isn't
-pub entered_way : (f : Frame) (vs : List ℕ) (line base count n : ℕ) (items : Items) (places : List CasePlace) (otherwise : Option ℕ) (body now : Nodes)
-    → (is_some otherwise || declares_none items) ≡ true → now ≡ way_code f vs base (n + 1) items places body → now ≡ entered_code f vs line base count items n places otherwise body
-entered_way f vs line base count n items places otherwise body now at_once same =
-    let way = way_code f vs base (n + 1) items places body in
-    same ∙ sym (λ i. if at_once i then way else guarded f vs line n (n + 1) items (n + 1 + 1) count way)
+pub entered_way : (f : Frame) (line base count n : ℕ) (items : Items) (places : List CasePlace) (otherwise : Option ℕ) (body now : Nodes)
+    → (is_some otherwise || declares_none items) ≡ true → now ≡ way_code f base (n + 1) items places body → now ≡ entered_code f line base count items n places otherwise body
+entered_way f line base count n items places otherwise body now at_once same =
+    let way = way_code f base (n + 1) items places body in
+    same ∙ sym (λ i. if at_once i then way else guarded f line n (n + 1) items (n + 1 + 1) count way)
 
-pub entered_guarded : (f : Frame) (vs : List ℕ) (line base count n : ℕ) (items : Items) (places : List CasePlace) (otherwise : Option ℕ) (body mid now : Nodes)
-    → (is_some otherwise || declares_none items) ≡ false → mid ≡ way_code f vs base (n + 1) items places body → now ≡ guarded f vs line n (n + 1) items (n + 1 + 1) count mid → now ≡ entered_code f vs line base count items n places otherwise body
-entered_guarded f vs line base count n items places otherwise body mid now tests way_is same =
-    let way = way_code f vs base (n + 1) items places body in
-    same ∙ (λ i. guarded f vs line n (n + 1) items (n + 1 + 1) count (way_is i)) ∙ sym (λ i. if tests i then way else guarded f vs line n (n + 1) items (n + 1 + 1) count way)
+pub entered_guarded : (f : Frame) (line base count n : ℕ) (items : Items) (places : List CasePlace) (otherwise : Option ℕ) (body mid now : Nodes)
+    → (is_some otherwise || declares_none items) ≡ false → mid ≡ way_code f base (n + 1) items places body → now ≡ guarded f line n (n + 1) items (n + 1 + 1) count mid → now ≡ entered_code f line base count items n places otherwise body
+entered_guarded f line base count n items places otherwise body mid now tests way_is same =
+    let way = way_code f base (n + 1) items places body in
+    same ∙ (λ i. guarded f line n (n + 1) items (n + 1 + 1) count (way_is i)) ∙ sym (λ i. if tests i then way else guarded f line n (n + 1) items (n + 1 + 1) count way)

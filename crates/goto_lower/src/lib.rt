@@ -3,7 +3,10 @@
 
 mod exits;
 mod first_values;
+mod initializers;
+mod jumps;
 mod lowering;
+mod objects;
 mod statements;
 mod switches;
 

@@ -1,27 +1,29 @@
 //! The code of statements, which is put before the nodes that are made.
 
 ghost use Rattle.std.specs.Prelude.{◌≡◌, ◌+◌, [], reverse, option_map, IfOk, OnOk};
-ghost use Rattle.core_tree.specs.Trees.{view, boxed, view_structure, view_statement, items_of, with_item, Items, block, if_else, for_loop, do_loop, switch, returns, returns_structure};
-ghost use Rattle.c_meaning.specs.Meaning.{number_type};
+ghost use Rattle.core_tree.specs.Trees.{view, boxed, view_statement, items_of, with_item, Items, block, if_else, for_loop, do_loop, switch};
 ghost use Rattle.goto_prog.specs.Nodes.{Nodes, plain, nodes_of};
 ghost use Rattle.goto_prog.specs.declared.code.Operation.TheVariants as operations;
-ghost use Rattle.lowered_code.specs.Lowering.{at_line, top, plains, initial_store, initial_code, code, part_code, test_code, items_code};
-ghost use Rattle.lowered_code.specs.Registers.{types, part_types, structure_types, items_types};
-ghost use Rattle.code_draft.specs.Drafts.{Listed, next, added};
-ghost use Rattle.goto_lower.specs.Statements.{typed, ways_of, cases_of, default_of, Within, Drafted};
+ghost use Rattle.lowered_code.specs.Lowering.{at_line, top, plains, code, part_code, test_code, items_code};
+ghost use Rattle.lowered_code.specs.Registers.{types, part_types, items_types};
+ghost use Rattle.code_draft.specs.Drafts.{Listed, next};
+ghost use Rattle.goto_lower.specs.Statements.{typed, ways_of, cases_of, default_of, Within, Inside, Drafted};
 
-use crate::exits::{CasePlace, Cases, Exits, no_cases, within_loop};
+use crate::exits::{CasePlace, Cases, Exits, no_cases, within_block, within_loop, within_switch};
 use crate::first_values::enter;
+use crate::initializers::{initialize_number, initialize_structure};
+use crate::jumps::{end_round, give, give_nothing, give_structure, go_to, leave_loop};
+use crate::objects::{leave_before, live_items};
 use crate::switches::{choose, enter_switch};
 use code_draft::{Draft, more};
-use core_tree::{CoreExpr, CoreItem, CoreStatement, CoreStructure, structure_size};
+use core_tree::{CoreExpr, CoreItem, CoreStatement};
 use goto_prog::{Node, Operation};
 use std::alloc::{AllocError, Global};
 
 // An expression.
 fn evaluate(draft: &mut Draft<'_>, value: &CoreExpr, made: &mut Vec<Node>) -> Result<(), AllocError>
     requires { draft.old.instructions ≡ [] }
-    ensures draft { OnOk result (draft.new ≡ typed draft.old (types (view value.now))) }
+    ensures draft { OnOk result (draft.new ≡ typed draft.old (types draft.old.frame.variables (view value.now))) }
     ensures code { OnOk result (nodes_of (reverse made.new.items) ≡ plains (code draft.old.frame (view value.now) (next draft.old)) (nodes_of (reverse made.old.items))) }
 {
     let _value = draft.expression(value)?;
@@ -35,8 +37,8 @@ fn evaluate_part(
     made: &mut Vec<Node>,
 ) -> Result<(), AllocError>
     requires { draft.old.instructions ≡ [] }
-    ensures draft { OnOk result (draft.new ≡ typed draft.old (part_types (option_map boxed part.now))) }
-    ensures code { OnOk result (nodes_of (reverse made.new.items) ≡ plains (part_code draft.old.frame draft.old.variables (option_map boxed part.now) (next draft.old)) (nodes_of (reverse made.old.items))) }
+    ensures draft { OnOk result (draft.new ≡ typed draft.old (part_types draft.old.frame.variables (option_map boxed part.now))) }
+    ensures code { OnOk result (nodes_of (reverse made.new.items) ≡ plains (part_code draft.old.frame (option_map boxed part.now) (next draft.old)) (nodes_of (reverse made.old.items))) }
 {
     match part {
         Some(value) => evaluate(draft, value, made),
@@ -53,8 +55,8 @@ fn lower_test(
     made: &mut Vec<Node>,
 ) -> Result<(), AllocError>
     requires { draft.old.instructions ≡ [] }
-    ensures draft { OnOk result (draft.new ≡ typed draft.old (types (view test.now))) }
-    ensures code { OnOk result (nodes_of (reverse made.new.items) ≡ plains (code draft.old.frame (view test.now) (next draft.old)) (plain (at_line draft.old.frame line (operations.SkipIfZero (next draft.old + top (view test.now)) count)) (nodes_of (reverse made.old.items)))) }
+    ensures draft { OnOk result (draft.new ≡ typed draft.old (types draft.old.frame.variables (view test.now))) }
+    ensures code { OnOk result (nodes_of (reverse made.new.items) ≡ plains (code draft.old.frame (view test.now) (next draft.old)) (plain (at_line draft.old.frame line (operations.SkipIfZero (next draft.old + top draft.old.frame.variables (view test.now)) count)) (nodes_of (reverse made.old.items)))) }
 {
     let value = draft.expression(test)?;
     let operand = value.register;
@@ -70,8 +72,8 @@ fn loop_test(
     made: &mut Vec<Node>,
 ) -> Result<(), AllocError>
     requires { draft.old.instructions ≡ [] }
-    ensures draft { OnOk result (draft.new ≡ typed draft.old (part_types (option_map boxed test.now))) }
-    ensures code { OnOk result (nodes_of (reverse made.new.items) ≡ plains (test_code draft.old.frame draft.old.variables line (option_map boxed test.now) (next draft.old)) (nodes_of (reverse made.old.items))) }
+    ensures draft { OnOk result (draft.new ≡ typed draft.old (part_types draft.old.frame.variables (option_map boxed test.now))) }
+    ensures code { OnOk result (nodes_of (reverse made.new.items) ≡ plains (test_code draft.old.frame line (option_map boxed test.now) (next draft.old)) (nodes_of (reverse made.old.items))) }
 {
     match test {
         Some(test) => lower_test(draft, line, test, 1, made),
@@ -79,91 +81,7 @@ fn loop_test(
     }
 }
 
-// `return` with a number.
-fn give(
-    draft: &mut Draft<'_>,
-    line: u32,
-    value: &CoreExpr,
-    made: &mut Vec<Node>,
-) -> Result<(), AllocError>
-    requires { draft.old.instructions ≡ [] }
-    ensures { (x : Exits) → OnOk result (Drafted draft.old draft.new (nodes_of (reverse made.old.items)) (nodes_of (reverse made.new.items)) x (returns line (view value.now))) }
-{
-    let block = draft.result_block();
-    let value = draft.expression(value)?;
-    draft.put(line, Operation::Return { value: Some(block) }, made)?;
-    let operation = Operation::Store {
-        block,
-        offset: 0,
-        count: value.type_.size(),
-        operand: value.register,
-    };
-    draft.put(line, operation, made)?;
-    draft.flush(made)
-}
-
-// `return` with a structure value.
-fn give_structure(
-    draft: &mut Draft<'_>,
-    line: u32,
-    value: &CoreStructure,
-    made: &mut Vec<Node>,
-) -> Result<(), AllocError>
-    requires { draft.old.instructions ≡ [] }
-    ensures { (x : Exits) → OnOk result (Drafted draft.old draft.new (nodes_of (reverse made.old.items)) (nodes_of (reverse made.new.items)) x (returns_structure line (view_structure value.now))) }
-{
-    let block = draft.result_block();
-    draft.structure(value, block, 0)?;
-    draft.put(line, Operation::Return { value: Some(block) }, made)?;
-    draft.flush(made)
-}
-
 // ---- the items of a block
-
-// A variable with an initializer.
-fn initialize_number(
-    draft: &mut Draft<'_>,
-    line: u32,
-    variable: u32,
-    value: &CoreExpr,
-    made: &mut Vec<Node>,
-) -> Result<(), AllocError>
-    requires { draft.old.instructions ≡ [] }
-    ensures draft { OnOk result (draft.new ≡ typed draft.old (types (view value.now))) }
-    ensures code { OnOk result (nodes_of (reverse made.new.items) ≡ plains (code draft.old.frame (view value.now) (next draft.old)) (plain (initial_store draft.old.frame draft.old.variables line variable (number_type (view value.now)) (next draft.old + top (view value.now))) (nodes_of (reverse made.old.items)))) }
-{
-    let value = draft.expression(value)?;
-    let operation = Operation::Store {
-        block: variable as usize,
-        offset: 0,
-        count: value.type_.size(),
-        operand: value.register,
-    };
-    draft.put(line, operation, made)?;
-    draft.flush(made)
-}
-
-// The structure value of an initializer, by a block that is free.
-fn initialize_structure(
-    draft: &mut Draft<'_>,
-    line: u32,
-    variable: u32,
-    value: &CoreStructure,
-) -> Result<(), AllocError>
-    ensures { OnOk result (draft.new ≡ added draft.old (initial_code draft.old.frame draft.old.variables line variable (view_structure value.now) (next draft.old)) (structure_types (view_structure value.now))) }
-{
-    let from = draft.temporary(value)?;
-    draft.push(
-        line,
-        Operation::CopyBytes {
-            into: variable as usize,
-            at: 0,
-            from,
-            offset: 0,
-            count: structure_size(value),
-        },
-    )
-}
 
 // An item before the others.
 #[cycle(statement)]
@@ -228,16 +146,37 @@ fn lower_items(
     made: &mut Vec<Node>,
 ) -> Result<Cases, AllocError>
     requires { draft.old.instructions ≡ [] }
-    ensures draft { OnOk result (draft.new ≡ typed draft.old (items_types draft.old.variables (items_of items.now))) }
-    ensures code { OnOk result (nodes_of (reverse made.new.items) ≡ items_code draft.old.frame draft.old.variables exits.base (ways_of exits draft.old.labels) (items_of items.now) (next draft.old) (nodes_of (reverse made.old.items))) }
-    ensures cases { IfOk result (λ c. c.places.items ≡ cases_of draft.old.frame draft.old.variables exits.base (ways_of exits draft.old.labels) (items_of items.now) (next draft.old) (nodes_of (reverse made.old.items))) }
-    ensures otherwise { IfOk result (λ c. c.otherwise ≡ default_of draft.old.frame draft.old.variables exits.base (ways_of exits draft.old.labels) (items_of items.now) (next draft.old) (nodes_of (reverse made.old.items))) }
+    ensures draft { OnOk result (draft.new ≡ typed draft.old (items_types draft.old.frame.variables (items_of items.now))) }
+    ensures code { OnOk result (nodes_of (reverse made.new.items) ≡ items_code draft.old.frame exits.base (ways_of exits draft.old.frame draft.old.marks) (items_of items.now) (next draft.old) (nodes_of (reverse made.old.items))) }
+    ensures cases { IfOk result (λ c. c.places.items ≡ cases_of draft.old.frame exits.base (ways_of exits draft.old.frame draft.old.marks) (items_of items.now) (next draft.old) (nodes_of (reverse made.old.items))) }
+    ensures otherwise { IfOk result (λ c. c.otherwise ≡ default_of draft.old.frame exits.base (ways_of exits draft.old.frame draft.old.marks) (items_of items.now) (next draft.old) (nodes_of (reverse made.old.items))) }
 {
     let known = draft.known();
     let mut cases = no_cases(alloc);
     for place in (0..items.len()).rev() {
         lower_item(draft, alloc, &items[place], exits, made, &mut cases)?;
     }
+    draft.forget(known);
+    Ok(cases)
+}
+
+// Items around which the objects of their variables live, and behind which these die.
+#[cycle(statement)]
+fn lower_inside(
+    draft: &mut Draft<'_>,
+    alloc: Global,
+    items: &[CoreItem],
+    exits: Exits,
+    made: &mut Vec<Node>,
+) -> Result<Cases, AllocError>
+    requires { draft.old.instructions ≡ [] }
+    ensures { IfOk result (λ c. Inside draft.old draft.new (nodes_of (reverse made.old.items)) (nodes_of (reverse made.new.items)) exits (items_of items.now) c) }
+{
+    let known = draft.known();
+    let count = live_items(draft, items)?;
+    leave_before(draft, count, made)?;
+    let inner = within_block(exits, count)?;
+    let cases = lower_items(draft, alloc, items, inner, made)?;
     draft.forget(known);
     Ok(cases)
 }
@@ -254,7 +193,7 @@ fn block(
     requires { draft.old.instructions ≡ [] }
     ensures { OnOk result (Drafted draft.old draft.new (nodes_of (reverse made.old.items)) (nodes_of (reverse made.new.items)) exits (block (items_of items.now))) }
 {
-    let _cases = lower_items(draft, alloc, items, exits, made)?;
+    let _cases = lower_inside(draft, alloc, items, exits, made)?;
     enter(draft, items)?;
     draft.flush(made)
 }
@@ -306,7 +245,7 @@ fn for_loop(
     let mut round = Vec::new(alloc);
     loop_test(draft, line, test, &mut round)?;
     evaluate_part(draft, last, &mut round)?;
-    let inner = within_loop(behind, round.len())?;
+    let inner = within_loop(exits, behind, round.len())?;
     lower_statement(draft, alloc, body, inner, &mut round)?;
     draft.repeat(line, number, true, round, made)?;
     loop_test(draft, line, test, made)?;
@@ -331,7 +270,7 @@ fn do_loop(
     let behind = more(exits.base, made.len())?;
     let mut round = Vec::new(alloc);
     lower_test(draft, line, test, 1, &mut round)?;
-    let inner = within_loop(behind, round.len())?;
+    let inner = within_loop(exits, behind, round.len())?;
     lower_statement(draft, alloc, body, inner, &mut round)?;
     draft.repeat(line, number, false, round, made)
 }
@@ -352,12 +291,8 @@ fn switch(
 {
     let count = made.len();
     let behind = more(exits.base, count)?;
-    let inner = Exits {
-        base: exits.base,
-        break_at: behind,
-        continue_at: exits.continue_at,
-    };
-    let cases = lower_items(draft, alloc, items, inner, made)?;
+    let inner = within_switch(exits, behind);
+    let cases = lower_inside(draft, alloc, items, inner, made)?;
     draft.jump_to(line, exits.base, cases.otherwise.unwrap_or(behind), made)?;
     let register = enter_switch(draft, line, value, items, &cases, exits.base, count, made)?;
     choose(draft, line, value, register, made)
@@ -390,13 +325,11 @@ pub(crate) fn lower_statement(
             no,
         } => branches(draft, alloc, *line, test, yes, no, exits, made),
         CoreStatement::Evaluate { expression } => evaluate(draft, expression, made),
-        CoreStatement::Return { line, value } => give(draft, *line, value, made),
+        CoreStatement::Return { line, value } => give(draft, *line, value, exits, made),
         CoreStatement::ReturnStructure { line, value } => {
-            give_structure(draft, *line, value, made)
+            give_structure(draft, *line, value, exits, made)
         }
-        CoreStatement::ReturnNothing { line } => {
-            draft.put(*line, Operation::Return { value: None }, made)
-        }
+        CoreStatement::ReturnNothing { line } => give_nothing(draft, *line, exits, made),
         CoreStatement::For {
             line,
             number,
@@ -416,14 +349,9 @@ pub(crate) fn lower_statement(
         CoreStatement::Switch { line, value, items } => {
             switch(draft, alloc, *line, value, items, exits, made)
         }
-        CoreStatement::Break { line } => draft.jump_to(*line, exits.base, exits.break_at, made),
-        CoreStatement::Continue { line } => {
-            draft.jump_to(*line, exits.base, exits.continue_at, made)
-        }
-        CoreStatement::Goto { line, label } => {
-            let place = draft.place_of(*label);
-            draft.jump_to(*line, exits.base, place, made)
-        }
+        CoreStatement::Break { line } => leave_loop(draft, *line, exits, made),
+        CoreStatement::Continue { line } => end_round(draft, *line, exits, made),
+        CoreStatement::Goto { line, label } => go_to(draft, *line, *label, exits, made),
         CoreStatement::Stray { statement, .. } => {
             lower_statement(draft, alloc, statement, exits, made)
         }

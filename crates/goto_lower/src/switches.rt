@@ -67,7 +67,7 @@ fn declares_none(items: &[CoreItem]) -> bool
 // and for that in front of its jump, if an item is one.
 fn case_register(draft: &mut Draft<'_>, item: &CoreItem, before: usize) -> Result<usize, AllocError>
     ensures draft { (rest : Items) → OnOk result (typed draft.new (case_types rest) ≡ typed draft.old (case_types (with_item item.now rest))) }
-    ensures last { (rest : Items) → IfOk result (λ r. last_case draft.new.frame draft.new.variables r rest (next draft.new) ≡ last_case draft.old.frame draft.old.variables before (with_item item.now rest) (next draft.old)) }
+    ensures last { (rest : Items) → IfOk result (λ r. last_case draft.new.frame r rest (next draft.new) ≡ last_case draft.old.frame before (with_item item.now rest) (next draft.old)) }
 {
     match item {
         CoreItem::Case { type_, .. } => {
@@ -90,7 +90,7 @@ fn case_registers(
     before: usize,
 ) -> Result<usize, AllocError>
     ensures draft { OnOk result (draft.new ≡ typed draft.old (case_types (items_of items.now))) }
-    ensures last { IfOk result (λ r. r ≡ last_case draft.old.frame draft.old.variables before (items_of items.now) (next draft.old)) }
+    ensures last { IfOk result (λ r. r ≡ last_case draft.old.frame before (items_of items.now) (next draft.old)) }
 {
     let mut last = before;
     for item in items {
@@ -108,7 +108,7 @@ fn case_jumps(
     places: &[CasePlace],
     made: &mut Vec<Node>,
 ) -> Result<(), AllocError>
-    ensures { (first : ℕ) → end ≡ first + 5 * length places.now → OnOk result (nodes_of (reverse made.new.items) ≡ jumps_to draft.now.frame draft.now.variables base value first (reverse places.now) (nodes_of (reverse made.old.items))) }
+    ensures { (first : ℕ) → end ≡ first + 5 * length places.now → OnOk result (nodes_of (reverse made.new.items) ≡ jumps_to draft.now.frame base value first (reverse places.now) (nodes_of (reverse made.old.items))) }
 {
     let mut into = end;
     for case in places {
@@ -127,7 +127,7 @@ fn case_jump(
     case: CasePlace,
     made: &mut Vec<Node>,
 ) -> Result<(), AllocError>
-    ensures { OnOk result (nodes_of (reverse made.new.items) ≡ jump_code draft.now.frame draft.now.variables base value into case (nodes_of (reverse made.old.items))) }
+    ensures { OnOk result (nodes_of (reverse made.new.items) ≡ jump_code draft.now.frame base value into case (nodes_of (reverse made.old.items))) }
 {
     let again = more(into, 3)?;
     let met = more(into, 4)?;
@@ -163,7 +163,7 @@ fn pass_unmet(
 ) -> Result<(), AllocError>
     requires { draft.old.instructions ≡ [] }
     ensures draft { OnOk result (draft.new ≡ draft.old) }
-    ensures code { registers.last ≡ last_case draft.old.frame draft.old.variables registers.before (items_of items.now) (registers.value + 1) → OnOk result (nodes_of (reverse made.new.items) ≡ guarded draft.old.frame draft.old.variables line registers.before registers.value (items_of items.now) (registers.value + 1) count (nodes_of (reverse made.old.items))) }
+    ensures code { registers.last ≡ last_case draft.old.frame registers.before (items_of items.now) (registers.value + 1) → OnOk result (nodes_of (reverse made.new.items) ≡ guarded draft.old.frame line registers.before registers.value (items_of items.now) (registers.value + 1) count (nodes_of (reverse made.old.items))) }
 {
     let count = made.len().saturating_sub(count);
     let operand = registers.last;
@@ -187,9 +187,9 @@ fn enter_cases(
     made: &mut Vec<Node>,
 ) -> Result<SwitchRegisters, AllocError>
     requires { draft.old.instructions ≡ [] }
-    ensures draft { OnOk result (draft.new ≡ typed draft.old (IntegerType.Int ∷ number_type (view value.now) ∷ (case_types (items_of items.now) ++ entry_types draft.old.variables (items_of items.now)))) }
-    ensures code { 5 * length cases.now.places.items ≡ length (case_types (items_of items.now)) → OnOk result (nodes_of (reverse made.new.items) ≡ way_code draft.old.frame draft.old.variables base (next draft.old + 1) (items_of items.now) cases.now.places.items (nodes_of (reverse made.old.items))) }
-    ensures registers { IfOk result (λ r. r ≡ record { before = next draft.old; value = next draft.old + 1; last = last_case draft.old.frame draft.old.variables (next draft.old) (items_of items.now) (next draft.old + 1 + 1) }) }
+    ensures draft { OnOk result (draft.new ≡ typed draft.old (IntegerType.Int ∷ number_type (view value.now) ∷ (case_types (items_of items.now) ++ entry_types draft.old.frame.variables (items_of items.now)))) }
+    ensures code { 5 * length cases.now.places.items ≡ length (case_types (items_of items.now)) → OnOk result (nodes_of (reverse made.new.items) ≡ way_code draft.old.frame base (next draft.old + 1) (items_of items.now) cases.now.places.items (nodes_of (reverse made.old.items))) }
+    ensures registers { IfOk result (λ r. r ≡ record { before = next draft.old; value = next draft.old + 1; last = last_case draft.old.frame (next draft.old) (items_of items.now) (next draft.old + 1 + 1) }) }
 {
     let before = draft.register(IntegerType::Int)?;
     let value = draft.register(number_type(value))?;
@@ -216,8 +216,8 @@ pub(crate) fn enter_switch(
     made: &mut Vec<Node>,
 ) -> Result<usize, AllocError>
     requires { draft.old.instructions ≡ [] }
-    ensures draft { OnOk result (draft.new ≡ typed draft.old (IntegerType.Int ∷ number_type (view value.now) ∷ (case_types (items_of items.now) ++ entry_types draft.old.variables (items_of items.now)))) }
-    ensures code { 5 * length cases.now.places.items ≡ length (case_types (items_of items.now)) → OnOk result (nodes_of (reverse made.new.items) ≡ entered_code draft.old.frame draft.old.variables line base count (items_of items.now) (next draft.old) cases.now.places.items cases.now.otherwise (nodes_of (reverse made.old.items))) }
+    ensures draft { OnOk result (draft.new ≡ typed draft.old (IntegerType.Int ∷ number_type (view value.now) ∷ (case_types (items_of items.now) ++ entry_types draft.old.frame.variables (items_of items.now)))) }
+    ensures code { 5 * length cases.now.places.items ≡ length (case_types (items_of items.now)) → OnOk result (nodes_of (reverse made.new.items) ≡ entered_code draft.old.frame line base count (items_of items.now) (next draft.old) cases.now.places.items cases.now.otherwise (nodes_of (reverse made.old.items))) }
     ensures value { IfOk result (λ r. r ≡ next draft.old + 1) }
 {
     let registers = enter_cases(draft, value, items, cases, base, made)?;
@@ -314,8 +314,8 @@ pub(crate) fn choose(
     made: &mut Vec<Node>,
 ) -> Result<(), AllocError>
     requires { draft.old.instructions ≡ [] }
-    ensures draft { OnOk result (draft.new ≡ typed draft.old (types (view value.now))) }
-    ensures code { OnOk result (nodes_of (reverse made.new.items) ≡ plains (code draft.old.frame (view value.now) (next draft.old)) (plain (at_line draft.old.frame line (operations.Copy register (next draft.old + top (view value.now)))) (nodes_of (reverse made.old.items)))) }
+    ensures draft { OnOk result (draft.new ≡ typed draft.old (types draft.old.frame.variables (view value.now))) }
+    ensures code { OnOk result (nodes_of (reverse made.new.items) ≡ plains (code draft.old.frame (view value.now) (next draft.old)) (plain (at_line draft.old.frame line (operations.Copy register (next draft.old + top draft.old.frame.variables (view value.now)))) (nodes_of (reverse made.old.items)))) }
 {
     let value = draft.expression(value)?;
     let operation = Operation::Copy {

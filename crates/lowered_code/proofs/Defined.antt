@@ -1,13 +1,13 @@
 -- Trees that break no rule call functions that are defined alone. So they are typed too where each function without a body gives what no call can ask for.
-use Rattle.std.proofs.Common.{◌≡◌, ℕ, zero, suc, ◌^◌, Bool, true, false, List, [], ◌∷◌, map, Option, Some, None, refl, ◌∙◌}
+use Rattle.std.proofs.Common.{◌≡◌, ℕ, zero, suc, ◌+◌, ◌^◌, sym, Bool, true, false, List, [], ◌∷◌, map, Option, Some, None, refl, ◌∙◌}
 use Rattle.std.specs.Prelude.{is_some, slice_get, if◌then◌else◌}
 use Rattle.std.proofs.lemmas.Bool.{false≢true}
 use Rattle.c_types.specs.Integers.{bytes}
 use Rattle.core_tree.specs.declared.functions.PassedType.{PassedType}
 use Rattle.core_tree.specs.declared.functions.PassedType.TheVariants as passed
 use Rattle.core_tree.specs.Trees.{Place, variable_at, object_at, literal_at, pointed, arrow, member, element, subscript, Expression, constant, read, convert, sign, is_zero, arithmetic, compare, logical, choice, assign, update, step, comma, assertion, assumption, draw, part, discard, discard_structure, call, function_name, size_of_value, size_of_structure, address, sum, distance, relation, pointer_update, pointer_step, allocate, allocate_zeroed, release, exit, abort, Structure, copy, choose, put, follow, section, list, string, give, Parts, no_part, number_part, structure_part, Arguments, no_argument, number_argument, structure_argument, Statement, block, if_then, if_else, evaluate, returns, returns_structure, returns_nothing, for_loop, do_loop, switch, breaks, continues, jumps, stray, Items, done, declares, initializes, initializes_structure, does, label, case_at, default_at, Procedure}
-use Rattle.core_tree.specs.Typed.{Signature, Sizes, signature, size_of, given_as, gives_this, parameters_of, is_place, is_typed, is_structure, are_parts, are_arguments, is_typed_part, is_test, is_typed_statement, are_typed_items}
-use Rattle.c_profile.specs.Rules.{Breach, breach, earlier, is_defined, call_breach, expression_breach, structure_breach, parts_breach, arguments_breach, part_breach, labels_from, statement_breach, items_breach}
+use Rattle.core_tree.specs.Typed.{Signature, Sizes, object_size, is_size, has_address, signature, size_of, given_as, gives_this, parameters_of, is_place, is_typed, is_structure, are_parts, are_arguments, is_typed_part, is_test, is_typed_statement, are_typed_items}
+use Rattle.c_profile.specs.Rules.{Breach, breach, earlier, is_defined, call_breach, place_breach, expression_breach, structure_breach, parts_breach, arguments_breach, part_breach, labels_from, statement_breach, items_breach}
 use Rattle.lowered_code.proofs.RegisterTypes.{both, left_of, right_of}
 
 pub first_none : (a b : Option Breach) → earlier a b ≡ None → a ≡ None
@@ -44,27 +44,55 @@ called functions line f h = by (is_defined (slice_get functions f)) h
     by true h = refl
     by false h = absurd (cc)
 
-module _ (functions : List Procedure) (variables : List ℕ) (homes : List (Option ℕ)) (objects : List ℕ) (literals : ℕ) (gives : Option PassedType) where
+module _ (functions : List Procedure) (variables : List ℕ) (homes : List (Option ℕ)) (objects : List ℕ) (literals : ℕ) (gives : Option PassedType) (allowed : Bool) where
   abbrev pub named : Sizes
-  named = record { variables = variables; homes = homes; objects = objects; literals = literals; functions = map signature functions; gives = gives; pointers = false }
+  named = record { variables = variables; homes = homes; objects = objects; literals = literals; functions = map signature functions; gives = gives; pointers = allowed }
 
   abbrev pub defined_only : Sizes
-  defined_only = record { variables = variables; homes = []; objects = objects; literals = 0; functions = map callable functions; gives = gives; pointers = false }
+  defined_only = record { variables = variables; homes = homes; objects = objects; literals = literals; functions = map callable functions; gives = gives; pointers = allowed }
 
-  place_defined : (n : ℕ) (x : Place) → is_place named n x ≡ true → is_place defined_only n x ≡ true
-  place_defined n (variable_at line v offset) h = h
-  place_defined n (object_at line k offset) h = h
-  place_defined n (literal_at line k) h = absurd (false≢true h)
-  place_defined n (pointed line e) h = absurd (false≢true h)
-  place_defined n (arrow line e offset) h = absurd (false≢true h)
-  place_defined n (member line x offset) h = absurd (false≢true h)
-  place_defined n (element line x e size whole swapped) h = absurd (false≢true h)
-  place_defined n (subscript line a e size swapped) h = absurd (false≢true h)
+  -- the object in which a place lies is the same one
+  same_object : (x : Place) → object_size named x ≡ object_size defined_only x
+  same_object (variable_at line v offset) = refl
+  same_object (object_at line k offset) = refl
+  same_object (literal_at line k) = refl
+  same_object (pointed line e) = refl
+  same_object (arrow line e offset) = refl
+  same_object (member line x offset) = same_object x
+  same_object (element line x e size whole swapped) = same_object x
+  same_object (subscript line a e size swapped) = refl
+
+  -- and so it has an address or none
+  same_address : (x : Place) → has_address named x ≡ has_address defined_only x
+  same_address (variable_at line v offset) = refl
+  same_address (object_at line k offset) = refl
+  same_address (literal_at line k) = refl
+  same_address (pointed line e) = refl
+  same_address (arrow line e offset) = refl
+  same_address (member line x offset) = same_address x
+  same_address (element line x e size whole swapped) = same_address x
+  same_address (subscript line a e size swapped) = refl
 
   mutual
+    pub place_defined : (n : ℕ) (x : Place) → is_place named n x ≡ true → place_breach functions x ≡ None → is_place defined_only n x ≡ true
+    place_defined n (variable_at line v offset) h clean = h
+    place_defined n (object_at line k offset) h clean = h
+    place_defined n (literal_at line k) h clean = h
+    place_defined n (pointed line e) h clean = both _ _ (left_of _ _ h) (expression_defined e (right_of _ _ h) clean)
+    place_defined n (arrow line e offset) h clean = both _ _ (left_of _ _ h) (expression_defined e (right_of _ _ h) clean)
+    place_defined n (member line x offset) h clean = both _ _ (left_of _ _ h) (place_defined (offset + n) x (right_of _ _ h) clean)
+    place_defined n (element line x e size whole swapped) h clean =
+        let inner = left_of _ _ h in
+        let index = left_of _ _ inner in
+        let known = left_of _ _ index in
+        let whole_is : is_size (object_size defined_only x) whole ≡ true = (λ i. is_size (sym (same_object x) i) whole) ∙ right_of _ _ known in
+        both _ _ (both _ _ (both _ _ (both _ _ (left_of _ _ known) whole_is) (right_of _ _ index)) (place_defined 0 x (right_of _ _ inner) (first_none _ _ clean))) (expression_defined e (right_of _ _ h) (second_none _ _ clean))
+    place_defined n (subscript line a e size swapped) h clean =
+        both _ _ (both _ _ (left_of _ _ (left_of _ _ h)) (expression_defined a (right_of _ _ (left_of _ _ h)) (first_none _ _ clean))) (expression_defined e (right_of _ _ h) (second_none _ _ clean))
+
     pub expression_defined : (e : Expression) → is_typed named e ≡ true → expression_breach functions e ≡ None → is_typed defined_only e ≡ true
     expression_defined (constant line t bits) h clean = h
-    expression_defined (read t x) h clean = place_defined (bytes t) x h
+    expression_defined (read t x) h clean = place_defined (bytes t) x h clean
     expression_defined (convert to e) h clean = both _ _ (left_of _ _ h) (expression_defined e (right_of _ _ h) clean)
     expression_defined (sign line op e) h clean = both _ _ (left_of _ _ h) (expression_defined e (right_of _ _ h) clean)
     expression_defined (is_zero line e) h clean = both _ _ (left_of _ _ h) (expression_defined e (right_of _ _ h) clean)
@@ -80,10 +108,10 @@ module _ (functions : List Procedure) (variables : List ℕ) (homes : List (Opti
         let others = second_none _ _ clean in
         both _ _ (both _ _ (both _ _ (left_of _ _ most) (expression_defined test (right_of _ _ most) (first_none _ _ clean))) (expression_defined a (right_of _ _ some) (first_none _ _ others))) (expression_defined b (right_of _ _ h) (second_none _ _ others))
     expression_defined (assign line t x e) h clean =
-        both _ _ (both _ _ (place_defined (bytes t) x (left_of _ _ (left_of _ _ h))) (right_of _ _ (left_of _ _ h))) (expression_defined e (right_of _ _ h) (second_none _ _ clean))
+        both _ _ (both _ _ (place_defined (bytes t) x (left_of _ _ (left_of _ _ h)) (first_none _ _ clean)) (right_of _ _ (left_of _ _ h))) (expression_defined e (right_of _ _ h) (second_none _ _ clean))
     expression_defined (update line t x op u e) h clean =
-        both _ _ (both _ _ (place_defined (bytes t) x (left_of _ _ (left_of _ _ h))) (right_of _ _ (left_of _ _ h))) (expression_defined e (right_of _ _ h) (second_none _ _ clean))
-    expression_defined (step line t x op before) h clean = place_defined (bytes t) x h
+        both _ _ (both _ _ (place_defined (bytes t) x (left_of _ _ (left_of _ _ h)) (first_none _ _ clean)) (right_of _ _ (left_of _ _ h))) (expression_defined e (right_of _ _ h) (second_none _ _ clean))
+    expression_defined (step line t x op before) h clean = place_defined (bytes t) x h clean
     expression_defined (comma line a b) h clean = both _ _ (expression_defined a (left_of _ _ h) (first_none _ _ clean)) (expression_defined b (right_of _ _ h) (second_none _ _ clean))
     expression_defined (assertion line e) h clean = both _ _ (left_of _ _ h) (expression_defined e (right_of _ _ h) clean)
     expression_defined (assumption line e) h clean = both _ _ (left_of _ _ h) (expression_defined e (right_of _ _ h) clean)
@@ -98,26 +126,36 @@ module _ (functions : List Procedure) (variables : List ℕ) (homes : List (Opti
     expression_defined (function_name line) h clean = h
     expression_defined (size_of_value line bits e) h clean = both _ _ (left_of _ _ h) (expression_defined e (right_of _ _ h) clean)
     expression_defined (size_of_structure line bits a) h clean = both _ _ (left_of _ _ h) (structure_defined a (right_of _ _ h) clean)
-    expression_defined (address line x) h clean = absurd (false≢true h)
-    expression_defined (sum line a e i swapped) h clean = absurd (false≢true h)
-    expression_defined (distance line a b i) h clean = absurd (false≢true h)
-    expression_defined (relation line op a b) h clean = absurd (false≢true h)
-    expression_defined (pointer_update line x i e) h clean = absurd (false≢true h)
-    expression_defined (pointer_step line x i before) h clean = absurd (false≢true h)
-    expression_defined (allocate line e) h clean = absurd (false≢true h)
-    expression_defined (allocate_zeroed line a b) h clean = absurd (false≢true h)
-    expression_defined (release line e) h clean = absurd (false≢true h)
-    expression_defined (exit line e) h clean = absurd (false≢true h)
-    expression_defined (abort line) h clean = absurd (false≢true h)
+    expression_defined (address line x) h clean =
+        both _ _ (both _ _ (left_of _ _ (left_of _ _ h)) (sym (same_address x) ∙ right_of _ _ (left_of _ _ h))) (place_defined 0 x (right_of _ _ h) clean)
+    expression_defined (sum line a e i swapped) h clean =
+        both _ _ (both _ _ (left_of _ _ (left_of _ _ h)) (expression_defined a (right_of _ _ (left_of _ _ h)) (first_none _ _ clean))) (expression_defined e (right_of _ _ h) (second_none _ _ clean))
+    expression_defined (distance line a b i) h clean =
+        both _ _ (both _ _ (left_of _ _ (left_of _ _ h)) (expression_defined a (right_of _ _ (left_of _ _ h)) (first_none _ _ clean))) (expression_defined b (right_of _ _ h) (second_none _ _ clean))
+    expression_defined (relation line op a b) h clean =
+        both _ _ (both _ _ (left_of _ _ (left_of _ _ h)) (expression_defined a (right_of _ _ (left_of _ _ h)) (first_none _ _ clean))) (expression_defined b (right_of _ _ h) (second_none _ _ clean))
+    expression_defined (pointer_update line x i e) h clean =
+        both _ _ (both _ _ (left_of _ _ (left_of _ _ h)) (place_defined 8 x (right_of _ _ (left_of _ _ h)) (first_none _ _ clean))) (expression_defined e (right_of _ _ h) (second_none _ _ clean))
+    expression_defined (pointer_step line x i before) h clean =
+        both _ _ (left_of _ _ h) (place_defined 8 x (right_of _ _ h) clean)
+    expression_defined (allocate line e) h clean =
+        both _ _ (left_of _ _ h) (expression_defined e (right_of _ _ h) clean)
+    expression_defined (allocate_zeroed line a b) h clean =
+        both _ _ (both _ _ (left_of _ _ (left_of _ _ h)) (expression_defined a (right_of _ _ (left_of _ _ h)) (first_none _ _ clean))) (expression_defined b (right_of _ _ h) (second_none _ _ clean))
+    expression_defined (release line e) h clean =
+        both _ _ (left_of _ _ h) (expression_defined e (right_of _ _ h) clean)
+    expression_defined (exit line e) h clean =
+        both _ _ (left_of _ _ h) (expression_defined e (right_of _ _ h) clean)
+    expression_defined (abort line) h clean = h
 
     pub structure_defined : (a : Structure) → is_structure named a ≡ true → structure_breach functions a ≡ None → is_structure defined_only a ≡ true
-    structure_defined (copy x size) h clean = place_defined size x h
+    structure_defined (copy x size) h clean = place_defined size x h clean
     structure_defined (choose line test a b) h clean =
         let some = left_of _ _ h in
         let most = left_of _ _ some in
         let others = second_none _ _ clean in
         both _ _ (both _ _ (both _ _ (left_of _ _ most) (expression_defined test (right_of _ _ most) (first_none _ _ clean))) (structure_defined a (right_of _ _ some) (first_none _ _ others))) (structure_defined b (right_of _ _ h) (second_none _ _ others))
-    structure_defined (put line x a) h clean = both _ _ (place_defined (size_of a) x (left_of _ _ h)) (structure_defined a (right_of _ _ h) (second_none _ _ clean))
+    structure_defined (put line x a) h clean = both _ _ (place_defined (size_of a) x (left_of _ _ h) (first_none _ _ clean)) (structure_defined a (right_of _ _ h) (second_none _ _ clean))
     structure_defined (follow line e a) h clean = both _ _ (expression_defined e (left_of _ _ h) (first_none _ _ clean)) (structure_defined a (right_of _ _ h) (second_none _ _ clean))
     structure_defined (section line offset size a) h clean = both _ _ (left_of _ _ h) (structure_defined a (right_of _ _ h) clean)
     structure_defined (list line size ps) h clean = both _ _ (left_of _ _ h) (parts_defined ps size (right_of _ _ h) clean)

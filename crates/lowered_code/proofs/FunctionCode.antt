@@ -1,13 +1,12 @@
 -- The code of functions does what they mean, however they call one another.
 use Rattle.std.proofs.Common.{◌≡◌, ℕ, zero, suc, ◌+◌, ◌-◌, ◌^◌, ◌<◌, ◌≤◌, Bool, true, false, take, drop, List, [], ◌∷◌, ◌++◌, length, map, Option, Some, None, refl, sym, ap, ◌∙◌, subst, arith, append_assoc, append-nil, length-append}
 use Rattle.std.specs.Prelude.{◌==◌, ◌&&◌, ◌||◌, not, is_some, nat_lt, nat_le, slice_get, slice_index, if◌then◌else◌}
-use Rattle.std.specs.Option.{option_and_then}
 use Rattle.std.proofs.lemmas.Bool.{false≢true}
 use Rattle.std.proofs.lemmas.List.{length-replicate, length-map}
 use Rattle.std.proofs.Math.Seq.{get_or-append_seam, take-append_seam}
 use Rattle.c_types.specs.declared.integers.IntegerType.{IntegerType}
 use Rattle.words.specs.declared.check.Class.{Class}
-use Rattle.words.specs.declared.check.Class.TheVariants.{Recursion, Assertion}
+use Rattle.words.specs.declared.check.Class.TheVariants.{Recursion}
 use Rattle.core_tree.specs.declared.functions.PassedType.{PassedType}
 use Rattle.core_tree.specs.Ranges.{Limits}
 use Rattle.std.specs.List.{list_all}
@@ -22,23 +21,24 @@ use Rattle.c_profile.specs.Rules.{functions_breach, body_breach}
 use Rattle.actions.specs.Pointer.{offset_of}
 use Rattle.c_meaning.specs.Meaning.{Running, Code, in_function, exec}
 use Rattle.goto_prog.specs.Meaning.{Memory, Given, at}
-use Rattle.goto_prog.specs.Threads.{Calls, acting, final}
-use Rattle.goto_prog.specs.Nodes.{Nodes, plain, Routine}
+use Rattle.goto_prog.specs.Threads.{Calls, acting}
+use Rattle.goto_prog.specs.Nodes.{Routine}
 use Rattle.goto_prog.specs.Structured as flat
 use Rattle.goto_prog.specs.Structured.{Bounded, with_arguments, entry_memory}
-use Rattle.goto_prog.specs.declared.code.Operation.TheVariants as operations
-use Rattle.lowered_code.specs.Lowering.{at_line, ends, no_ways, statement_code}
-use Rattle.c_temporaries.specs.Temporaries.{Temporaries, statement_temporaries}
-use Rattle.lowered_code.specs.Lowered.{given_size, first_frame, defined_code, code_by, function_code, function_codes}
-use Rattle.lowered_code.proofs.PlainFiles.{plain_file}
-use Rattle.lowered_code.proofs.RegisterTypes.{left_of, right_of}
+use Rattle.lowered_code.specs.Lowering.{death_registers, statement_registers, parameters_registers, body_code}
+use Rattle.lowered_code.specs.Registers.{death_types, statement_types, parameters_types}
+use Rattle.c_temporaries.specs.Accesses.{home_in}
+use Rattle.c_temporaries.specs.Temporaries.{Temporaries, heap_bytes, statement_temporaries}
+use Rattle.lowered_code.specs.Lowered.{given_size, first_frame, first_literal, defined_code, code_by, function_code, function_codes}
+use Rattle.lowered_code.proofs.RegisterTypes.{both, left_of, right_of}
 use Rattle.lowered_code.proofs.BlockBytes.{small_offset}
 use Rattle.lowered_code.proofs.Defined.{first_none, second_none, callable_by, callable, defined_only, statement_defined}
-use Rattle.lowered_code.proofs.RegisterCounts.{statement_length}
-use Rattle.lowered_code.proofs.Housing.{housed_body}
+use Rattle.lowered_code.proofs.RegisterCounts.{death_length, parameters_length, statement_length}
+use Rattle.lowered_code.proofs.HeapBytes.{few_statement}
+use Rattle.lowered_code.proofs.Housing.{heap_is, housed_body}
 use Rattle.lowered_code.proofs.Placing.{Places, same_final}
-use Rattle.lowered_code.proofs.ExpressionCode.{SourceCalls, Callable, Sound, IsGiven, handed, AreArguments, Placed, test_less, test_most, test_equal}
-use Rattle.lowered_code.proofs.StatementCode.{Ready, LeadOut, leaving_out, places_count, statement_means}
+use Rattle.lowered_code.proofs.ExpressionCode.{SourceCalls, Callable, Sound, IsGiven, handed, AreArguments, Placed, frame, test_less, test_most, test_equal}
+use Rattle.lowered_code.proofs.StatementCode.{Ready, body_means}
 
 -- ---- the blocks of a function at its start
 
@@ -123,15 +123,15 @@ found_in f [] k y h = absurd (cc)
 found_in f (x ∷ xs) zero y h = let same : f x ≡ y = cc in (x, refl, same)
 found_in f (x ∷ xs) (suc k) y h = found_in f xs k y h
 
-pub codes_at : (number : ℕ) (procedures : List Procedure) (k : ℕ) (p : Procedure) → slice_get procedures k ≡ Some p → slice_get (function_codes number procedures) k ≡ Some (function_code (number + k) p)
-codes_at number [] k p h = absurd (cc)
-codes_at number (q ∷ procedures) zero p h =
+pub codes_at : (literals number : ℕ) (procedures : List Procedure) (k : ℕ) (p : Procedure) → slice_get procedures k ≡ Some p → slice_get (function_codes literals number procedures) k ≡ Some (function_code literals (number + k) p)
+codes_at literals number [] k p h = absurd (cc)
+codes_at literals number (q ∷ procedures) zero p h =
     let same : q ≡ p = cc in
     let here : number ≡ number + 0 = omega arith in
-    λ i. Some (function_code (here i) (same i))
-codes_at number (q ∷ procedures) (suc k) p h =
+    λ i. Some (function_code literals (here i) (same i))
+codes_at literals number (q ∷ procedures) (suc k) p h =
     let there : number + 1 + k ≡ number + suc k = omega arith in
-    codes_at (number + 1) procedures k p h ∙ ap (λ n. Some (function_code n p)) there
+    codes_at literals (number + 1) procedures k p h ∙ ap (λ n. Some (function_code literals n p)) there
 
 -- what holds of each holds of one
 all_at : {A : Type 0} (test : A → Bool) (xs : List A) (k : ℕ) (x : A) → list_all test xs ≡ true → slice_get xs k ≡ Some x → test x ≡ true
@@ -145,15 +145,17 @@ clean_at functions [] k p h found = absurd (cc)
 clean_at functions (q ∷ procedures) zero p h found = let same : q ≡ p = cc in subst (λ (r : Procedure). body_breach functions r.body ≡ None) same (second_none _ _ (first_none _ _ h))
 clean_at functions (q ∷ procedures) (suc k) p h found = clean_at functions procedures k p (second_none _ _ h) found
 
-no_home : (sizes : Sizes) (home : Option ℕ) → sizes.pointers ≡ false → is_home sizes home ≡ true → home ≡ None
-no_home sizes None none h = refl
-no_home sizes (Some v) none h = absurd (false≢true (sym none ∙ left_of _ _ (left_of _ _ h)))
+-- a variable that holds an address has 8 bytes
+home_at : (sizes : Sizes) (vs : List Variable) (v h : ℕ) → list_all (is_home sizes) (homes_of vs) ≡ true → home_in vs v ≡ Some h → is_home sizes (Some h) ≡ true
+home_at sizes [] v h homes found = absurd (cc)
+home_at sizes (x ∷ vs) zero h homes found = (λ i. is_home sizes (sym found i)) ∙ left_of (is_home sizes x.home) (list_all (is_home sizes) (homes_of vs)) homes
+home_at sizes (x ∷ vs) (suc v) h homes found = home_at sizes vs v h (right_of (is_home sizes x.home) (list_all (is_home sizes) (homes_of vs)) homes) found
 
--- where no form with a pointer may stand no variable has an address
-homeless_at : (sizes : Sizes) (vs : List Variable) (v : ℕ) → sizes.pointers ≡ false → list_all (is_home sizes) (homes_of vs) ≡ true → option_and_then (λ (x : Variable). x.home) (slice_get vs v) ≡ None
-homeless_at sizes [] v none h = refl
-homeless_at sizes (x ∷ vs) zero none h = no_home sizes x.home none (left_of (is_home sizes x.home) (list_all (is_home sizes) (homes_of vs)) h)
-homeless_at sizes (x ∷ vs) (suc v) none h = homeless_at sizes vs v none (right_of (is_home sizes x.home) (list_all (is_home sizes) (homes_of vs)) h)
+home_within : (sizes : Sizes) (h : ℕ) → is_home sizes (Some h) ≡ true → is_within sizes.variables h 0 8 ≡ true
+home_within sizes h home =
+    let eight : slice_index sizes.variables h ≡ 8 = test_equal (slice_index sizes.variables h) 8 (right_of (sizes.pointers && nat_lt h (length sizes.variables)) (slice_index sizes.variables h == 8) home) in
+    both (nat_lt h (length sizes.variables)) (nat_le 8 (slice_index sizes.variables h))
+    (right_of sizes.pointers (nat_lt h (length sizes.variables)) (left_of (sizes.pointers && nat_lt h (length sizes.variables)) (slice_index sizes.variables h == 8) home)) (ap (λ n. nat_le 8 n) eight)
 
 small_at : (vs : List Variable) (v : ℕ) → are_small vs ≡ true → v < length (sizes_of_variables vs) → slice_index (sizes_of_variables vs) v < 2 ^ 31
 small_at [] v h lt = absurd (omega (arith, lt))
@@ -173,21 +175,41 @@ parameters_or true b h k = refl
 parameters_or false true h k = absurd (false≢true h)
 parameters_or false false h k = absurd (false≢true k)
 
+-- as many arguments as parameters
+values_count : (ps : List PassedType) (blocks values : List (List ℕ)) → AreArguments ps blocks values → length values ≡ length ps
+values_count [] [] [] are = refl
+values_count [] [] (v ∷ values) are = absurd are
+values_count [] (b ∷ blocks) values are = absurd are
+values_count (p ∷ ps) [] values are = absurd are
+values_count (p ∷ ps) (b ∷ blocks) [] are = absurd are
+values_count (p ∷ ps) (b ∷ blocks) (v ∷ values) are = ap suc (values_count ps blocks values are.2)
+
+parameters_count : (vs : List ℕ) (ps : List PassedType) → have_parameters vs ps ≡ true → length ps ≤ length vs
+parameters_count vs [] fits = omega arith
+parameters_count [] (p ∷ ps) fits = absurd (false≢true fits)
+parameters_count (v ∷ vs) (p ∷ ps) fits = omega (arith, parameters_count vs ps (right_of _ _ fits))
+
 -- ---- functions
 
 -- over a file that is typed and breaks no rule, the bounds, and how many times tests may be evaluated
-module _ (file : TypedFile) (limits : Limits) (all_typed : list_all (is_typed_function (plain_file file)) file.functions ≡ true)
-    (all_clean : functions_breach file.functions file.functions ≡ None) (all_small : have_small file.functions ≡ true)
-    (tests_of : (function loop : ℕ) → ℕ) (tests_same : (f l : ℕ) → flat.tests (record { strict = true; functions = function_codes 0 file.functions; limits = limits }) f l ≡ tests_of f l) where
+module _ (file : TypedFile) (limits : Limits) (all_typed : list_all (is_typed_function file) file.functions ≡ true)
+    (all_clean : functions_breach file.functions file.functions ≡ None) (all_small : have_small file.functions ≡ true) (few : limits.malloc_limit ≤ heap_bytes)
+    (tests_of : (function loop : ℕ) → ℕ) (tests_same : (f l : ℕ) → flat.tests (record { strict = true; functions = function_codes (first_literal file) 0 file.functions; limits = limits }) f l ≡ tests_of f l) where
+  abbrev literals : ℕ
+  literals = first_literal file
+
+  abbrev codes : List Routine
+  codes = function_codes literals 0 file.functions
+
   abbrev pub bounded : Bounded
-  bounded = record { strict = true; functions = function_codes 0 file.functions; limits = limits }
+  bounded = record { strict = true; functions = codes; limits = limits }
 
   abbrev pub meaning : Code
   meaning = record {
     functions = file.functions;
     tests = tests_of;
     assertions = limits.assertions;
-    literals = length file.objects + 1;
+    literals = literals;
     malloc_limit = limits.malloc_limit;
     malloc_may_fail = limits.malloc_may_fail;
   }
@@ -204,11 +226,11 @@ module _ (file : TypedFile) (limits : Limits) (all_typed : list_all (is_typed_fu
       → flat.activation bounded fuel left caller f line blocks x ≡ source.activation meaning fuel left caller f line values y
 
   abbrev typed_body : Procedure → Statement → Type 0
-  typed_body p s = is_typed_statement (defined_only file.functions (sizes_of_variables p.variables) (homes_of p.variables) (sizes_of_objects file.objects) (length file.literals) p.gives) s ≡ true
+  typed_body p s = is_typed_statement (defined_only file.functions (sizes_of_variables p.variables) (homes_of p.variables) (sizes_of_objects file.objects) (length file.literals) p.gives file.pointers) s ≡ true
 
   -- a function that is defined
   module _ (fuel : ℕ) (agrees : CallsAgree fuel) (left : List ℕ) (f : ℕ) (p : Procedure) (s : Statement) (blocks values : List (List ℕ)) (x : Given → Behaviour) (y : source.Given → Behaviour)
-      (fits : have_parameters (sizes_of_variables p.variables) p.parameters ≡ true) (homeless : (v : ℕ) → option_and_then (λ (u : Variable). u.home) (slice_get p.variables v) ≡ None) (small : are_small p.variables ≡ true)
+      (fits : have_parameters (sizes_of_variables p.variables) p.parameters ≡ true) (homes : list_all (is_home (sizes_in file p)) (homes_of p.variables) ≡ true) (small : are_small p.variables ≡ true)
       (typed : typed_body p s) (are : AreArguments p.parameters blocks values)
       (follows : (given : source.Given) → IsGiven p.gives given → x (handed p.gives given) ≡ y given) where
     abbrev running : Running
@@ -218,7 +240,7 @@ module _ (file : TypedFile) (limits : Limits) (all_typed : list_all (is_typed_fu
       variables = p.variables;
       tests = tests_of f;
       assertions = limits.assertions;
-      literals = length file.objects + 1;
+      literals = literals;
       malloc_limit = limits.malloc_limit;
       malloc_may_fail = limits.malloc_may_fail;
     }
@@ -228,10 +250,10 @@ module _ (file : TypedFile) (limits : Limits) (all_typed : list_all (is_typed_fu
     own = sizes_of_variables p.variables
 
     abbrev needed : Temporaries
-    needed = statement_temporaries s
+    needed = statement_temporaries p.variables s
 
     abbrev others : List ℕ
-    others = needed.zeros ∷ given_size p.gives ∷ needed.sizes
+    others = needed.zeros ∷ given_size p.gives ∷ (needed.sizes ++ needed.heap ∷ [])
 
     abbrev calls : Calls
     calls = flat.activation bounded fuel left
@@ -240,10 +262,14 @@ module _ (file : TypedFile) (limits : Limits) (all_typed : list_all (is_typed_fu
     meant = source.activation meaning fuel left f
 
     abbrev routine : Routine
-    routine = defined_code f p s
+    routine = defined_code literals f p s
 
+    -- the first free block, and the one in which objects are made
     abbrev depth : ℕ
     depth = length own + 2
+
+    abbrev heap : ℕ
+    heap = length own + 2 + length needed.sizes
 
     abbrev total : ℕ
     total = length routine.registers
@@ -254,25 +280,24 @@ module _ (file : TypedFile) (limits : Limits) (all_typed : list_all (is_typed_fu
     abbrev later : Places
     later = (λ last. x None) ∷ []
 
-    abbrev rest : Nodes
-    rest = plain (at_line (first_frame f own) p.line (operations.Return None)) (plain (at_line (first_frame f own) p.line (operations.Assert 0)) ends)
-
     blocks_are : start.blocks ≡ with_arguments own blocks ++ first_variables others
     blocks_are = arguments_front own others blocks (argument_count_is p.parameters own blocks values fits are)
 
     front_length : length (with_arguments own blocks) ≡ length own
     front_length = sym (length-map (with_arguments own blocks) length) ∙ ap length (argument_sizes_are own blocks)
 
-    long : length (own ++ others) ≡ length own + length others
-    long = length-append own others
+    long : length (own ++ others) ≡ heap + 1
+    long = omega (arith, length-append own others, length-append needed.sizes (needed.heap ∷ []))
 
-    placed : Placed running others calls x meant depth start
+    placed : Placed running others heap limits calls x meant depth start
     placed = record {
       deep = omega arith;
       within = omega (arith, long);
+      last = long;
+      most = omega (arith, heap_is own (given_size p.gives) needed, few_statement p.variables s);
       sized = argument_sizes_are (own ++ others) blocks;
-      clean = (λ i. block_of (blocks_are i) (sym front_length i)) ∙ get_or-append_seam (with_arguments own blocks) (zeros needed.zeros) (first_variables (given_size p.gives ∷ needed.sizes)) []
-          ∙ sym (ap zeros (get_or-append_seam own needed.zeros (given_size p.gives ∷ needed.sizes) 0));
+      clean = (λ i. block_of (blocks_are i) (sym front_length i)) ∙ get_or-append_seam (with_arguments own blocks) (zeros needed.zeros) (first_variables (given_size p.gives ∷ (needed.sizes ++ needed.heap ∷ []))) []
+          ∙ sym (ap zeros (get_or-append_seam own needed.zeros (given_size p.gives ∷ (needed.sizes ++ needed.heap ∷ [])) 0));
     }
 
     signature_agrees : (g : ℕ) (line : ℕ) (k : Signature) (bs vs : List (List ℕ)) (u : Given → Behaviour) (v : source.Given → Behaviour)
@@ -284,44 +309,42 @@ module _ (file : TypedFile) (limits : Limits) (all_typed : list_all (is_typed_fu
     small_within v offset count within =
         let there = test_less v (length own) (left_of (nat_lt v (length own)) (nat_le (offset + count) (slice_index own v)) within) in
         let most = test_most (offset + count) (slice_index own v) (right_of (nat_lt v (length own)) (nat_le (offset + count) (slice_index own v)) within) in
-        let few : slice_index own v < 2 ^ 31 = small_at p.variables v small there in
-        small_offset offset (omega (arith, most, few))
+        let small_size : slice_index own v < 2 ^ 31 = small_at p.variables v small there in
+        small_offset offset (omega (arith, most, small_size))
 
-    sound : Sound running others calls x meant signatures
-    sound = record { agree = signature_agrees; homeless = homeless; small = small_within }
-
-    out : LeadOut running others (sizes_of_objects file.objects) signatures p.gives calls x meant sound (function_codes 0 file.functions) limits depth total no_ways (in_function p.line f y) (flat.nodes_before bounded (acting calls x) rest later)
-    out = record {
-      breaks = broken;
-      continues = broken;
-      labels = λ l. broken;
-      returns = λ given is vs. follows given is;
+    sound : Sound running others heap limits calls x meant signatures
+    sound = record {
+      agree = signature_agrees;
+      homed = λ v h found. home_within (sizes_in file p) h (home_at (sizes_in file p) p.variables v h homes found);
+      limited = few;
+      bounded = refl;
+      failing = refl;
+      small = small_within;
     }
-      where
-        places : Places
-        places = flat.nodes_before bounded (acting calls x) rest later
 
-        three : length places ≡ 3
-        three = places_count running others (sizes_of_objects file.objects) signatures p.gives calls x meant sound (function_codes 0 file.functions) limits depth total rest later
-
-        broken : (2 ≤ length places) × ((m : Memory) → Ready running others (sizes_of_objects file.objects) signatures p.gives calls x meant sound (function_codes 0 file.functions) limits depth total m → at (acting calls x) places (length places - 2) m ≡ source.final (Broken Assertion p.line f))
-        broken = (
-          omega (arith, three),
-          λ m ready.
-              (let one : length places - 2 ≡ 1 = omega (arith, three) in ap (λ n. at (acting calls x) places n m) one)
-              ∙ (λ i. if ready.zero_there i == 0 then final (Broken Assertion p.line f) else x None)
-              ∙ same_final (Broken Assertion p.line f),
+    registers_there : 1 + (death_registers p.variables + (statement_registers p.variables s + parameters_registers p.variables (length p.parameters) 0)) ≤ total
+    registers_there =
+        let body = statement_types p.variables s in
+        let behind = parameters_types p.variables (length p.parameters) in
+        omega (
+          arith,
+          length-append (death_types p.variables) (body ++ behind),
+          length-append body behind,
+          death_length p.variables,
+          statement_length p.variables s,
+          parameters_length p.variables (length p.parameters),
         )
 
-    ready : Ready running others (sizes_of_objects file.objects) signatures p.gives calls x meant sound (function_codes 0 file.functions) limits depth total start
+    ready : Ready running others (sizes_of_objects file.objects) heap (length file.literals) signatures p.gives file.pointers limits calls x meant sound codes depth total start
     ready = record { placed = placed; zero_there = zero_register routine.registers; room = length-map {B = ℕ} routine.registers (λ t. 0) }
 
     result_size : slice_index (own ++ others) (length own + 1) ≡ given_size p.gives
     result_size =
         let front = own ++ needed.zeros ∷ [] in
+        let rest = needed.sizes ++ needed.heap ∷ [] in
         let at_end : length front ≡ length own + 1 = length-append own (needed.zeros ∷ []) in
-        (λ i. slice_index (sym (append_assoc own (needed.zeros ∷ []) (given_size p.gives ∷ needed.sizes)) i) (sym at_end i))
-        ∙ get_or-append_seam front (given_size p.gives) needed.sizes 0
+        (λ i. slice_index (sym (append_assoc own (needed.zeros ∷ []) (given_size p.gives ∷ rest)) i) (sym at_end i))
+        ∙ get_or-append_seam front (given_size p.gives) rest 0
 
     shown_start : take (length own) start.blocks ≡ source.frame running values
     shown_start =
@@ -331,32 +354,31 @@ module _ (file : TypedFile) (limits : Limits) (all_typed : list_all (is_typed_fu
         ∙ take-append_seam front (first_variables others)
         ∙ arguments_are own p.parameters blocks values fits are
 
-    -- no object of a parameter is made, and none dies
-    parameters_entered : (count v : ℕ) (vs : Variables) (g : Variables → Behaviour) → source.enter_parameters running count v vs g ≡ g vs
-    parameters_entered zero v vs g = refl
-    parameters_entered (suc count) v vs g =
-        (λ i. source.places running (homeless v i) p.line v vs (λ after. source.enter_parameters running count (suc v) after g)) ∙ parameters_entered count (suc v) vs g
-
-    parameters_left : (count v : ℕ) (vs : Variables) (b : Behaviour) → source.leave_parameters running count v vs b ≡ b
-    parameters_left zero v vs b = refl
-    parameters_left (suc count) v vs b =
-        parameters_left count (suc v) vs (source.dies running (source.home_of running v) p.line vs b) ∙ (λ i. source.dies running (homeless v i) p.line vs b)
-
-    body_same : source.exec_body running meant s values y ≡ exec running meant s (in_function p.line f y) (source.frame running values) (λ vs. y source.nothing)
-    body_same =
-        let count = length values in
-        let out = source.leave_parameters running count 0 in
-        parameters_entered count 0 (source.frame running values) (λ vs. exec running meant s (source.leaving out (in_function p.line f y)) vs (λ last. out last (y source.nothing)))
-        ∙ (λ i. exec running meant s (leaving_out out (parameters_left count 0) (in_function p.line f y) i) (source.frame running values) (λ last. parameters_left count 0 last (y source.nothing) i))
+    -- the frame counts the sizes of the variables, which are as many as these
+    same_frame : first_frame literals f p.variables (length needed.sizes) ≡ frame running others heap limits calls x meant depth
+    same_frame =
+        let many : length p.variables ≡ length own = sym (length-map p.variables (λ (v : Variable). v.size)) in
+        λ i. record {
+          function = f;
+          variables = p.variables;
+          zeros = many i;
+          result = many i + 1;
+          free = many i + 2;
+          heap = many i + 2 + length needed.sizes;
+          literals = literals;
+        }
 
     defined_means : at (acting calls x) (flat.nodes_before bounded (acting calls x) routine.nodes later) 0 start ≡ source.exec_body running meant s values y
     defined_means =
         let one : 1 ≡ length later = omega arith in
-        (λ i. at (acting calls x) (flat.nodes_before bounded (acting calls x) (statement_code (first_frame f own) own (one i) no_ways s 1 rest) later) 0 start)
-        ∙ statement_means running others (sizes_of_objects file.objects) signatures p.gives calls x meant sound (function_codes 0 file.functions) limits depth total (tests_same f) refl result_size
-        s no_ways (in_function p.line f y) 1 rest later (λ vs. y source.nothing) typed (housed_body own (given_size p.gives) needed) (omega arith) (omega (arith, statement_length own s)) out (λ m ready'. follows source.nothing tt) start ready
-        ∙ (λ i. exec running meant s (in_function p.line f y) (shown_start i) (λ vs. y source.nothing))
-        ∙ sym body_same
+        let count = length p.parameters in
+        let body : (count : ℕ) → Variables → Behaviour = λ count vs.
+        source.enter_parameters running count 0 vs (λ after.
+        exec running meant s (source.leaving (source.leave_parameters running count 0) (in_function p.line f y)) after (λ last. source.leave_parameters running count 0 last (y source.nothing))) in
+        (λ i. at (acting calls x) (flat.nodes_before bounded (acting calls x) (body_code (same_frame i) p.line count s) later) 0 start)
+        ∙ body_means running others (sizes_of_objects file.objects) heap (length file.literals) signatures p.gives file.pointers limits calls x meant sound codes depth total (tests_same f) refl result_size
+        count s y later one (parameters_count own p.parameters fits) typed (housed_body own (given_size p.gives) needed) registers_there follows start ready
+        ∙ (λ i. body (sym (values_count p.parameters blocks values are) i) (shown_start i))
 
   choose_same : (b : Bool) (u v u' v' : Behaviour) → u ≡ u' → v ≡ v' → (if b then u else v) ≡ (if b then u' else v')
   choose_same true u v u' v' first second = first
@@ -365,25 +387,25 @@ module _ (file : TypedFile) (limits : Limits) (all_typed : list_all (is_typed_fu
   -- a function's code and its body
   enters_same : (fuel : ℕ) → CallsAgree fuel → (left : List ℕ) (caller line f : ℕ) (p : Procedure) (body : Option Statement) (blocks values : List (List ℕ)) (x : Given → Behaviour) (y : source.Given → Behaviour)
       → slice_get file.functions f ≡ Some p
-      → ((have_parameters (sizes_of_variables p.variables) p.parameters || not (is_some body)) && list_all (is_home (sizes_in (plain_file file) p)) (homes_of p.variables) && is_typed_body (sizes_in (plain_file file) p) body) ≡ true
+      → ((have_parameters (sizes_of_variables p.variables) p.parameters || not (is_some body)) && list_all (is_home (sizes_in file p)) (homes_of p.variables) && is_typed_body (sizes_in file p) body) ≡ true
       → body_breach file.functions body ≡ None → are_small p.variables ≡ true
       → Callable (callable_by body p).gives → AreArguments (callable_by body p).parameters blocks values
       → ((given : source.Given) → IsGiven (callable_by body p).gives given → x (handed (callable_by body p).gives given) ≡ y given)
-      → flat.enters bounded (Some (code_by f p body)) (flat.activation bounded fuel left) blocks x ≡ source.enters meaning caller line f body (source.activation meaning fuel left f) values y
+      → flat.enters bounded (Some (code_by literals f p body)) (flat.activation bounded fuel left) blocks x ≡ source.enters meaning caller line f body (source.activation meaning fuel left f) values y
   enters_same fuel agrees left caller line f p None blocks values x y found typed clean small can are follows = absurd (omega (arith, can))
   enters_same fuel agrees left caller line f p (Some s) blocks values x y found typed clean small can are follows =
-      let parameters = left_of (have_parameters (sizes_of_variables p.variables) p.parameters || not true) (list_all (is_home (sizes_in (plain_file file) p)) (homes_of p.variables)) (left_of _ (is_typed_statement (sizes_in (plain_file file) p) s) typed) in
-      let homes = right_of (have_parameters (sizes_of_variables p.variables) p.parameters || not true) (list_all (is_home (sizes_in (plain_file file) p)) (homes_of p.variables)) (left_of _ (is_typed_statement (sizes_in (plain_file file) p) s) typed) in
+      let parameters = left_of (have_parameters (sizes_of_variables p.variables) p.parameters || not true) (list_all (is_home (sizes_in file p)) (homes_of p.variables)) (left_of _ (is_typed_statement (sizes_in file p) s) typed) in
+      let homes = right_of (have_parameters (sizes_of_variables p.variables) p.parameters || not true) (list_all (is_home (sizes_in file p)) (homes_of p.variables)) (left_of _ (is_typed_statement (sizes_in file p) s) typed) in
       let calls_typed : typed_body p s =
-      statement_defined file.functions (sizes_of_variables p.variables) (homes_of p.variables) (sizes_of_objects file.objects) (length file.literals) p.gives s [] (right_of _ (is_typed_statement (sizes_in (plain_file file) p) s) typed) clean in
-      defined_means fuel agrees left f p s blocks values x y (parameters_or (have_parameters (sizes_of_variables p.variables) p.parameters) true parameters refl) (λ v. homeless_at (sizes_in (plain_file file) p) p.variables v refl homes) small calls_typed are follows
+      statement_defined file.functions (sizes_of_variables p.variables) (homes_of p.variables) (sizes_of_objects file.objects) (length file.literals) p.gives file.pointers s [] (right_of _ (is_typed_statement (sizes_in file p) s) typed) clean in
+      defined_means fuel agrees left f p s blocks values x y (parameters_or (have_parameters (sizes_of_variables p.variables) p.parameters) true parameters refl) homes small calls_typed are follows
       ∙ sym (λ i. source.exec_body (record {
         function = f;
         line = source.line_of (found i);
         variables = source.variables_of (found i);
         tests = tests_of f;
         assertions = limits.assertions;
-        literals = length file.objects + 1;
+        literals = literals;
         malloc_limit = limits.malloc_limit;
         malloc_may_fail = limits.malloc_may_fail;
       }) (source.activation meaning fuel left f) s values y)
@@ -395,13 +417,13 @@ module _ (file : TypedFile) (limits : Limits) (all_typed : list_all (is_typed_fu
       let there = found_in callable file.functions f g found in
       let p = there.0 in
       let here : 0 + f ≡ f = omega arith in
-      let got : slice_get (function_codes 0 file.functions) f ≡ Some (function_code f p) = codes_at 0 file.functions f p there.1 ∙ ap (λ n. Some (function_code n p)) here in
+      let got : slice_get codes f ≡ Some (function_code literals f p) = codes_at literals 0 file.functions f p there.1 ∙ ap (λ n. Some (function_code literals n p)) here in
       let can_be : Callable (callable p).gives = subst (λ (k : Signature). Callable k.gives) (sym there.2) can in
       let are : AreArguments (callable p).parameters blocks values = subst (λ (k : Signature). AreArguments k.parameters blocks values) (sym there.2) fit in
       let follows : (given : source.Given) → IsGiven (callable p).gives given → x (handed (callable p).gives given) ≡ y given =
       subst (λ (k : Signature). (given : source.Given) → IsGiven k.gives given → x (handed k.gives given) ≡ y given) (sym there.2) same in
       choose_same (slice_index left f == 0) _ _ _ _ (passed_same limits.assertions Recursion line caller)
       ((λ i. flat.enters bounded (got i) (flat.activation bounded fuel (flat.opened left f)) blocks x)
-      ∙ enters_same fuel (calls_agree fuel) (flat.opened left f) caller line f p p.body blocks values x y there.1 (all_at (is_typed_function (plain_file file)) file.functions f p all_typed there.1) (clean_at file.functions file.functions f p all_clean there.1)
+      ∙ enters_same fuel (calls_agree fuel) (flat.opened left f) caller line f p p.body blocks values x y there.1 (all_at (is_typed_function file) file.functions f p all_typed there.1) (clean_at file.functions file.functions f p all_clean there.1)
       (all_at (λ (q : Procedure). are_small q.variables) file.functions f p all_small there.1) can_be are follows
       ∙ sym (λ i. source.enters meaning caller line f (source.body_of (there.1 i)) (source.activation meaning fuel (source.opened left f) f) values y))

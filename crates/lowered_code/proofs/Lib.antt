@@ -1,6 +1,6 @@
-pub mod PlainFiles
 pub mod RegisterCounts
 pub mod BlockBytes
+pub mod HeapBytes
 pub mod Housing
 pub mod Placing
 pub mod RegisterTypes

@@ -14,14 +14,16 @@ use Rattle.c_meaning.specs.Meaning.{Running}
 use Rattle.goto_prog.specs.declared.code.Instruction.{Instruction}
 use Rattle.c_values.specs.Variables.{block_of, put_at, put_bytes, zeros, cleared}
 use Rattle.goto_prog.specs.Meaning.{Memory, Given, Reading, register, with_register, with_blocks, at, or_else, operates}
+use Rattle.core_tree.specs.Ranges.{Limits}
+use Rattle.goto_prog.specs.Structured.{resolved}
 use Rattle.goto_prog.specs.Threads.{Calls, acting, final, ask}
 use Rattle.lowered_code.proofs.BlockBytes.{put_size, put_within}
 
 abbrev pub Places : Type 0
 Places = List (Memory → Behaviour)
 
--- over what calls do, and what becomes of what the function hands over
-module _ (calls : Calls) (hands : Given → Behaviour) where
+-- over the bounds, what calls do, and what becomes of what the function hands over
+module _ (limits : Limits) (calls : Calls) (hands : Given → Behaviour) where
   abbrev here : Reading Behaviour
   here = acting calls hands
 
@@ -32,11 +34,11 @@ module _ (calls : Calls) (hands : Given → Behaviour) where
   -- strict code with these places behind it
   abbrev pub on_in : List Instruction → Places → Places
   on_in [] rest = rest
-  on_in (i ∷ code) rest = operates here true 0 i.line i.function i.operation (on_in code rest) ∷ on_in code rest
+  on_in (i ∷ code) rest = operates here true 0 i.line i.function (resolved limits i.operation) (on_in code rest) ∷ on_in code rest
 
   pub on-append : (xs ys : List Instruction) (rest : Places) → on_in (xs ++ ys) rest ≡ on_in xs (on_in ys rest)
   on-append [] ys rest = refl
-  on-append (i ∷ xs) ys rest = λ k. operates here true 0 i.line i.function i.operation (on-append xs ys rest k) ∷ on-append xs ys rest k
+  on-append (i ∷ xs) ys rest = λ k. operates here true 0 i.line i.function (resolved limits i.operation) (on-append xs ys rest k) ∷ on-append xs ys rest k
 
   -- a jump over code
   pub at-behind : (xs : List Instruction) (rest : Places) (j : ℕ) (m : Memory) → at here (on_in xs rest) (length xs + j) m ≡ at here rest j m
@@ -169,6 +171,24 @@ module _ (z : ℕ) where
     sizes = second.sizes ∙ first.sizes;
     held = λ i from lt other. second.held i from lt other ∙ first.held i from lt other;
     filled = second.filled ∙ ap (put_at (to + o) value) first.filled ∙ put_within to o value block (block_of a.blocks into) fits room;
+  }
+
+  -- a block behind the free ones is written
+  pub kept-behind : (d n b offset : ℕ) (new : List ℕ) (old m : Memory) → d ≤ b → offset + length new ≤ length (block_of m.blocks b) → Kept d n old m → Kept d n old (written m b offset new)
+  kept-behind d n b offset new old m behind fits kept = record {
+    below = kept.below;
+    room = kept.room;
+    sizes = written_sizes m b offset new fits ∙ kept.sizes;
+    held = λ i from lt. written_other m b offset i new (λ e. omega (arith, e, lt, behind)) ∙ kept.held i from lt;
+  }
+
+  -- each byte of it gets 0
+  pub kept-cleared : (d n b size : ℕ) (old m : Memory) → d ≤ b → length (block_of m.blocks b) ≡ size → Kept d n old m → Kept d n old (with_blocks m (cleared m.blocks b size))
+  kept-cleared d n b size old m behind long kept = record {
+    below = kept.below;
+    room = kept.room;
+    sizes = map-set_same length m.blocks b (zeros size) [] (length-replicate size 0 ∙ sym long) ∙ kept.sizes;
+    held = λ i from lt. get_or-set_other m.blocks b i (zeros size) [] (λ e. omega (arith, e, lt, behind)) ∙ kept.held i from lt;
   }
 
 -- ---- endings and actions of the two meanings are the same

@@ -1,6 +1,6 @@
 -- Registers and their types, and which code fits them.
 use Rattle.std.proofs.Common.{◌≡◌, ℕ, ◌+◌, ◌*◌, ◌<◌, ◌≤◌, ◌^◌, Bool, true, false, ◌&&◌, ◌||◌, nat_lt, nat_le, List, [], ◌∷◌, ◌++◌, length, refl, sym, ap, subst, ◌∙◌, arith, append_assoc, length-append}
-use Rattle.std.specs.Prelude.{◌==◌, slice_index, slice_index_or}
+use Rattle.std.specs.Prelude.{◌==◌, ℤ, slice_index, slice_index_or}
 use Rattle.std.proofs.Math.Seq.{get_or-append_seam}
 use Rattle.std.proofs.lemmas.Bool.{false≢true}
 use Rattle.std.proofs.lemmas.Bool.Decides.{nat_tests}
@@ -18,7 +18,8 @@ use Rattle.c_values.specs.Numbers.{same_width, are_operands_of}
 use Rattle.c_meaning.specs.Meaning.{integer_of}
 use Rattle.goto_prog.specs.declared.code.Instruction.{Instruction}
 use Rattle.goto_prog.specs.declared.code.Operation.TheVariants as operations
-use Rattle.goto_prog.specs.Fitting.{is_there, is_register, has_bytes, operation_fits, code_fits}
+use Rattle.goto_prog.specs.Fitting.{is_there, is_register, has_bytes, is_block, operation_fits, code_fits}
+use Rattle.words.specs.declared.check.Class.{Class}
 
 pub both : (a b : Bool) → a ≡ true → b ≡ true → (a && b) ≡ true
 both a b first second = λ i. first i && second i
@@ -218,6 +219,63 @@ module _ (registers : List IntegerType) (blocks : List ℕ) where
 
   pub draw_fits : (r bits : ℕ) (t : IntegerType) → Register registers r t → nat_le 1 bits ≡ true → nat_le bits (width t) ≡ true → operation_fits registers blocks 0 (operations.Draw r bits) ≡ true
   draw_fits r bits t h some few = both _ _ (both _ _ (there_is r t h) some) (ap (λ u. nat_le bits (width u)) h.is ∙ few)
+
+  -- ---- pointers, sizes and objects
+
+  pub pointer_constant_fits : (r bits : ℕ) → Register registers r types.UnsignedLong → bits < 2 ^ 64 → operation_fits registers blocks 0 (operations.Constant r bits) ≡ true
+  pointer_constant_fits r bits h small = constant_fits r bits types.UnsignedLong h (less_true bits (2 ^ 64) small)
+
+  block_is : (b : ℕ) → nat_lt b (length blocks) ≡ true → is_block blocks b (slice_index blocks b) ≡ true
+  block_is b there = both _ _ there (to_same (slice_index blocks b) (slice_index blocks b) refl)
+
+  pub move_fits : (r p i size : ℕ) (t : IntegerType) (stride : ℤ) (class : Class) → Register registers r types.UnsignedLong → Register registers p types.UnsignedLong → Register registers i t → Register registers size types.UnsignedLong
+      → operation_fits registers blocks 0 (operations.Move r p i t stride size class) ≡ true
+  move_fits r p i size t stride class h hp hi hs = both _ _ (register_is r types.UnsignedLong h) (both _ _ (both _ _ (register_is p types.UnsignedLong hp) (register_is i t hi)) (register_is size types.UnsignedLong hs))
+
+  pub offset_fits : (r p count : ℕ) → Register registers r types.UnsignedLong → Register registers p types.UnsignedLong → operation_fits registers blocks 0 (operations.Offset r p count) ≡ true
+  offset_fits r p count h hp = both _ _ (register_is r types.UnsignedLong h) (register_is p types.UnsignedLong hp)
+
+  pub same_fits : (p q : ℕ) → Register registers p types.UnsignedLong → Register registers q types.UnsignedLong → operation_fits registers blocks 0 (operations.Same p q) ≡ true
+  same_fits p q hp hq = both _ _ (register_is p types.UnsignedLong hp) (register_is q types.UnsignedLong hq)
+
+  pub distance_fits : (r p q size : ℕ) → Register registers r types.Long → Register registers p types.UnsignedLong → Register registers q types.UnsignedLong → 1 ≤ size → operation_fits registers blocks 0 (operations.Distance r p q size) ≡ true
+  distance_fits r p q size h hp hq some = both _ _ (both _ _ (both _ _ (register_is r types.Long h) (register_is p types.UnsignedLong hp)) (register_is q types.UnsignedLong hq)) (at_most_true 1 size some)
+
+  pub relate_fits : (r p q : ℕ) (op : Comparison) → Register registers r types.Int → Register registers p types.UnsignedLong → Register registers q types.UnsignedLong → operation_fits registers blocks 0 (operations.Relate r op p q) ≡ true
+  relate_fits r p q op h hp hq = both _ _ (both _ _ (register_is r types.Int h) (register_is p types.UnsignedLong hp)) (register_is q types.UnsignedLong hq)
+
+  pub take_fits : (b to from p count : ℕ) → Register registers p types.UnsignedLong → is_within blocks b to count ≡ true → nat_lt from (length blocks) ≡ true → operation_fits registers blocks 0 (operations.Take b to from p count (slice_index blocks from)) ≡ true
+  take_fits b to from p count hp within there = both _ _ (both _ _ (register_is p types.UnsignedLong hp) within) (block_is from there)
+
+  pub put_fits : (b p from to count : ℕ) → Register registers p types.UnsignedLong → is_within blocks from to count ≡ true → nat_lt b (length blocks) ≡ true → operation_fits registers blocks 0 (operations.Put b p from to count (slice_index blocks b)) ≡ true
+  put_fits b p from to count hp within there = both _ _ (both _ _ (register_is p types.UnsignedLong hp) within) (block_is b there)
+
+  pub read_fits : (b to p count : ℕ) → Register registers p types.UnsignedLong → is_within blocks b to count ≡ true → operation_fits registers blocks 0 (operations.Read b to p count) ≡ true
+  read_fits b to p count hp within = both _ _ (register_is p types.UnsignedLong hp) within
+
+  pub write_fits : (p b from count : ℕ) (first : Bool) → Register registers p types.UnsignedLong → is_within blocks b from count ≡ true → operation_fits registers blocks 0 (operations.Write p b from count first) ≡ true
+  write_fits p b from count first hp within = both _ _ (register_is p types.UnsignedLong hp) within
+
+  pub look_fits : (r p : ℕ) (subscript : Bool) → Register registers r types.UnsignedLong → Register registers p types.UnsignedLong → operation_fits registers blocks 0 (operations.Look r p subscript) ≡ true
+  look_fits r p subscript h hp = both _ _ (register_is r types.UnsignedLong h) (register_is p types.UnsignedLong hp)
+
+  pub fill_fits : (b r : ℕ) → nat_lt b (length blocks) ≡ true → Register registers r types.UnsignedLong → operation_fits registers blocks 0 (operations.Fill b r) ≡ true
+  fill_fits b r there h = both _ _ there (register_is r types.UnsignedLong h)
+
+  pub alloc_fits : (r b size : ℕ) (readonly heap : Bool) → Register registers r types.UnsignedLong → nat_lt b (length blocks) ≡ true → Register registers size types.UnsignedLong → operation_fits registers blocks 0 (operations.Alloc r b size readonly heap) ≡ true
+  alloc_fits r b size readonly heap h there hs = both _ _ (both _ _ (register_is r types.UnsignedLong h) there) (register_is size types.UnsignedLong hs)
+
+  pub die_fits : (p : ℕ) → Register registers p types.UnsignedLong → operation_fits registers blocks 0 (operations.Die p) ≡ true
+  die_fits p h = register_is p types.UnsignedLong h
+
+  pub free_fits : (p : ℕ) → Register registers p types.UnsignedLong → operation_fits registers blocks 0 (operations.Free p) ≡ true
+  free_fits p h = register_is p types.UnsignedLong h
+
+  pub may_fail_fits : (r : ℕ) → Register registers r types.Int → operation_fits registers blocks 0 (operations.MayFail r) ≡ true
+  may_fail_fits r h = register_is r types.Int h
+
+  pub limit_fits : (a b : ℕ) → Register registers a types.UnsignedLong → Register registers b types.UnsignedLong → operation_fits registers blocks 0 (operations.Limit a b) ≡ true
+  limit_fits a b ha hb = both _ _ (register_is a types.UnsignedLong ha) (register_is b types.UnsignedLong hb)
 
 -- ---- widths
 

@@ -1,5 +1,5 @@
 -- The code of a file does under the bounds of a command what the file means.
-use Rattle.std.proofs.Common.{◌≡◌, ℕ, zero, suc, ◌+◌, ◌*◌, ◌<◌, Bool, true, false, List, [], ◌∷◌, length, map, Option, Some, None, refl, sym, ap, subst, ◌∙◌, arith, true≢false, suc-mul, zero-mul}
+use Rattle.std.proofs.Common.{◌≡◌, ℕ, zero, suc, ◌+◌, ◌*◌, ◌<◌, ◌≤◌, Bool, true, false, List, [], ◌∷◌, length, map, Option, Some, None, refl, sym, ap, subst, ◌∙◌, arith, true≢false, suc-mul, zero-mul}
 use Rattle.std.specs.Prelude.{◌==◌, ◌&&◌, nat_lt, is_some, is_none, replicate, slice_get, if◌then◌else◌}
 use Rattle.std.specs.List.{list_all}
 use Rattle.std.specs.Str.{bytes_eq}
@@ -23,8 +23,9 @@ use Rattle.goto_prog.specs.Meaning.{Given}
 use Rattle.goto_prog.specs.Same.{DoSame}
 use Rattle.goto_prog.specs.Structured as flat
 use Rattle.goto_prog.specs.Structured.{Bounded, can_start}
-use Rattle.lowered_code.specs.Lowered.{code_by, function_code, function_codes}
-use Rattle.lowered_code.proofs.PlainFiles.{plain_file, is_plain}
+use Rattle.goto_prog.specs.Nodes.{Routine}
+use Rattle.c_temporaries.specs.Temporaries.{heap_bytes}
+use Rattle.lowered_code.specs.Lowered.{first_literal, code_by, function_code, function_codes}
 use Rattle.lowered_code.proofs.RegisterTypes.{left_of, right_of}
 use Rattle.lowered_code.proofs.Placing.{same_final}
 use Rattle.lowered_code.proofs.ExpressionCode.{Callable, handed, AreArguments, same_passing}
@@ -33,31 +34,31 @@ use Rattle.lowered_code.proofs.FunctionCode.{codes_at, calls_agree}
 
 -- ---- the codes of functions
 
-pub codes_length : (number : ℕ) (functions : List Procedure) → length (function_codes number functions) ≡ length functions
-codes_length number [] = refl
-codes_length number (f ∷ functions) = ap suc (codes_length (number + 1) functions)
+pub codes_length : (literals number : ℕ) (functions : List Procedure) → length (function_codes literals number functions) ≡ length functions
+codes_length literals number [] = refl
+codes_length literals number (f ∷ functions) = ap suc (codes_length literals (number + 1) functions)
 
-code_name : (number : ℕ) (f : Procedure) (body : Option Statement) → (code_by number f body).name ≡ f.name
-code_name number f None = refl
-code_name number f (Some s) = refl
+code_name : (literals number : ℕ) (f : Procedure) (body : Option Statement) → (code_by literals number f body).name ≡ f.name
+code_name literals number f None = refl
+code_name literals number f (Some s) = refl
 
-code_line : (number : ℕ) (f : Procedure) (body : Option Statement) → (code_by number f body).line ≡ f.line
-code_line number f None = refl
-code_line number f (Some s) = refl
+code_line : (literals number : ℕ) (f : Procedure) (body : Option Statement) → (code_by literals number f body).line ≡ f.line
+code_line literals number f None = refl
+code_line literals number f (Some s) = refl
 
-code_starts : (number : ℕ) (f : Procedure) (body : Option Statement) → (code_by number f body).startable ≡ false
-code_starts number f None = refl
-code_starts number f (Some s) = refl
+code_starts : (literals number : ℕ) (f : Procedure) (body : Option Statement) → (code_by literals number f body).startable ≡ false
+code_starts literals number f None = refl
+code_starts literals number f (Some s) = refl
 
-names_same : (number : ℕ) (functions : List Procedure) (k : ℕ) → flat.name_of (slice_get (function_codes number functions) k) ≡ source_threads.name_of (slice_get functions k)
-names_same number [] k = refl
-names_same number (f ∷ functions) zero = code_name number f f.body
-names_same number (f ∷ functions) (suc k) = names_same (number + 1) functions k
+names_same : (literals number : ℕ) (functions : List Procedure) (k : ℕ) → flat.name_of (slice_get (function_codes literals number functions) k) ≡ source_threads.name_of (slice_get functions k)
+names_same literals number [] k = refl
+names_same literals number (f ∷ functions) zero = code_name literals number f f.body
+names_same literals number (f ∷ functions) (suc k) = names_same literals (number + 1) functions k
 
-never_startable : (number : ℕ) (functions : List Procedure) (k : ℕ) → can_start (slice_get (function_codes number functions) k) ≡ false
-never_startable number [] k = refl
-never_startable number (f ∷ functions) zero = code_starts number f f.body
-never_startable number (f ∷ functions) (suc k) = never_startable (number + 1) functions k
+never_startable : (literals number : ℕ) (functions : List Procedure) (k : ℕ) → can_start (slice_get (function_codes literals number functions) k) ≡ false
+never_startable literals number [] k = refl
+never_startable literals number (f ∷ functions) zero = code_starts literals number f f.body
+never_startable literals number (f ∷ functions) (suc k) = never_startable literals (number + 1) functions k
 
 never_less : (k : ℕ) → nat_lt k 0 ≡ false
 never_less k = grind (arith, nat_tests)
@@ -127,21 +128,27 @@ main_is (f ∷ functions) h = let found = by_name f functions (is_main f) h (mai
 
 -- ---- threads
 
-module _ (file : TypedFile) (limits : Limits) (typed : are_typed (plain_file file) ≡ true) (clean : functions_breach file.functions file.functions ≡ None) (small : have_small file.functions ≡ true) where
+module _ (file : TypedFile) (limits : Limits) (typed : are_typed file ≡ true) (clean : functions_breach file.functions file.functions ≡ None) (small : have_small file.functions ≡ true) (few : limits.malloc_limit ≤ heap_bytes) where
   abbrev functions : List Procedure
   functions = file.functions
 
+  abbrev literals : ℕ
+  literals = first_literal file
+
+  abbrev codes : List Routine
+  codes = function_codes literals 0 functions
+
   abbrev bounded : Bounded
-  bounded = record { strict = true; functions = function_codes 0 functions; limits = limits }
+  bounded = record { strict = true; functions = codes; limits = limits }
 
   abbrev tests_of : ℕ → ℕ → ℕ
   tests_of f n = source_threads.tests_in limits.set limits.unwind (source_threads.name_of (slice_get functions f)) n
 
   tests_same : (f l : ℕ) → flat.tests bounded f l ≡ tests_of f l
-  tests_same f l = (λ i. flat.tests_in limits.set limits.unwind (names_same 0 functions f i) l) ∙ bounds_same limits.set limits.unwind (source_threads.name_of (slice_get functions f)) l
+  tests_same f l = (λ i. flat.tests_in limits.set limits.unwind (names_same literals 0 functions f i) l) ∙ bounds_same limits.set limits.unwind (source_threads.name_of (slice_get functions f)) l
 
-  all_typed : list_all (is_typed_function (plain_file file)) functions ≡ true
-  all_typed = right_of (are_static (plain_file file)) (list_all (is_typed_function (plain_file file)) functions) typed
+  all_typed : list_all (is_typed_function file) functions ≡ true
+  all_typed = right_of (are_static file) (list_all (is_typed_function file) functions) typed
 
   leaves_same : (number line : ℕ) (given : Given) (meant : source.Given) → flat.leaves true number line given ≡ source_threads.leaves true number line meant
   leaves_same number line given meant = λ i answers. by_answers answers i
@@ -152,20 +159,20 @@ module _ (file : TypedFile) (limits : Limits) (typed : are_typed (plain_file fil
 
   fuel_is : flat.first_fuel bounded ≡ suc (source.total (source_threads.first_left functions limits))
   fuel_is =
-      let n = length (function_codes 0 functions) * limits.unwind in
-      let many : n ≡ length functions * limits.unwind = ap (λ k. k * limits.unwind) (codes_length 0 functions) in
+      let n = length codes * limits.unwind in
+      let many : n ≡ length functions * limits.unwind = ap (λ k. k * limits.unwind) (codes_length literals 0 functions) in
       omega (arith, many, total_is (length functions) limits.unwind)
 
   main_does : (number : ℕ) (p : Procedure) → slice_get functions number ≡ Some p → IsMain p → flat.function_behaviour bounded true number ≡ source_threads.function_behaviour file limits true number
   main_does number p found is_it =
       let here : 0 + number ≡ number = omega arith in
-      let got : slice_get (function_codes 0 functions) number ≡ Some (function_code number p) = codes_at 0 functions number p found ∙ ap (λ n. Some (function_code n p)) here in
+      let got : slice_get codes number ≡ Some (function_code literals number p) = codes_at literals 0 functions number p found ∙ ap (λ n. Some (function_code literals n p)) here in
       let signed : slice_get (map callable functions) number ≡ Some (signature p) = signature_at functions number p found ∙ ap Some (callable_is p.body p is_it.body) in
       let can : Callable p.gives = subst Callable (sym is_it.gives) tt in
       let are : AreArguments p.parameters [] [] = subst (λ (ps : List PassedType). AreArguments ps [] []) (sym is_it.parameters) tt in
       (λ i. flat.runs_at bounded true number (got i))
-      ∙ (λ i. flat.activation bounded (fuel_is i) (replicate (codes_length 0 functions i) limits.unwind) number number (code_line number p p.body i) [] (flat.leaves true number (code_line number p p.body i)))
-      ∙ calls_agree file limits all_typed clean small tests_of tests_same (suc (source.total (source_threads.first_left functions limits))) (source_threads.first_left functions limits) number number p.line (signature p) [] []
+      ∙ (λ i. flat.activation bounded (fuel_is i) (replicate (codes_length literals 0 functions i) limits.unwind) number number (code_line literals number p p.body i) [] (flat.leaves true number (code_line literals number p p.body i)))
+      ∙ calls_agree file limits all_typed clean small few tests_of tests_same (suc (source.total (source_threads.first_left functions limits))) (source_threads.first_left functions limits) number number p.line (signature p) [] []
       (flat.leaves true number p.line) (source_threads.leaves true number p.line) signed can are (λ given is. leaves_same number p.line (handed p.gives given) given)
       ∙ (λ i. source_threads.runs_at file limits true number (sym found i))
 
@@ -177,14 +184,14 @@ functions_clean : (file : TypedFile) → first_breach file ≡ None → function
 functions_clean file admitted =
     first_none (functions_breach file.functions file.functions) (objects_breach file.objects) (second_none (main_breach file.functions) (earlier (functions_breach file.functions file.functions) (objects_breach file.objects)) admitted)
 
-pub same_thread : (file : TypedFile) → file.pointers ≡ false → first_breach file ≡ None → are_typed file ≡ true → have_small file.functions ≡ true → (limits : Limits)
-    → DoSame (flat.function_thread (record { strict = true; functions = function_codes 0 file.functions; limits = limits }) true (main_number file.functions)) (source_thread file limits)
-same_thread file none admitted typed few limits =
+pub same_thread : (file : TypedFile) → first_breach file ≡ None → are_typed file ≡ true → have_small file.functions ≡ true → (limits : Limits) → limits.malloc_limit ≤ heap_bytes
+    → DoSame (flat.function_thread (record { strict = true; functions = function_codes (first_literal file) 0 file.functions; limits = limits }) true (main_number file.functions)) (source_thread file limits)
+same_thread file admitted typed small limits few =
     let main = main_is file.functions (main_clean file admitted) in
     record {
-      behaves = main_does file limits (subst (λ (f : TypedFile). are_typed f ≡ true) (is_plain file none) typed) (functions_clean file admitted) few (main_number file.functions) main.procedure main.there main.defined;
-      startable = λ k. never_startable 0 file.functions k ∙ sym (never_less k);
-      others = λ k v can small. absurd (true≢false (sym can ∙ never_startable 0 file.functions k));
+      behaves = main_does file limits typed (functions_clean file admitted) small few (main_number file.functions) main.procedure main.there main.defined;
+      startable = λ k. never_startable (first_literal file) 0 file.functions k ∙ sym (never_less k);
+      others = λ k v can started. absurd (true≢false (sym can ∙ never_startable (first_literal file) 0 file.functions k));
     }
 
 pub main_below : (file : TypedFile) → first_breach file ≡ None → main_number file.functions < length file.functions

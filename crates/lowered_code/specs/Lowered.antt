@@ -4,13 +4,14 @@ use Rattle.actions.specs.Objects.{Objects}
 use Rattle.c_types.specs.declared.integers.IntegerType.TheVariants.{Int}
 use Rattle.core_tree.specs.declared.functions.PassedType.{PassedType}
 use Rattle.core_tree.specs.Typed.{passed_size, sizes_of_variables}
+use Rattle.core_tree.specs.declared.functions.Variable.{Variable}
 use Rattle.core_tree.specs.Trees.{Statement, Procedure, TypedFile}
 use Rattle.c_meaning.specs.Source.{main_number, first_objects, are_storable}
 use Rattle.goto_prog.specs.declared.code.Operation.TheVariants as operations
 use Rattle.goto_prog.specs.Nodes.{Routine, plain, view_procedures}
 use Rattle.goto_prog.specs.GotoThreads.{GotoFile}
 use Rattle.lowered_code.specs.Lowering.{Frame, at_line, ends, body_code}
-use Rattle.lowered_code.specs.Registers.{statement_types}
+use Rattle.lowered_code.specs.Registers.{death_types, statement_types, parameters_types}
 use Rattle.c_temporaries.specs.Temporaries.{Temporaries, statement_temporaries}
 
 -- how many bytes a function hands over
@@ -18,46 +19,61 @@ abbrev pub given_size : Option PassedType → ℕ
 given_size None = 0
 given_size (Some p) = passed_size p
 
--- the blocks of a function: its variables, one whose bytes stay 0, one for what it hands over, and those for values on the way
+-- the blocks of a function: its variables, one whose bytes stay 0, one for what it hands over, those for values on the way, and one in which objects are made
 abbrev pub blocks_of : List ℕ → (given : ℕ) → Temporaries → List ℕ
-blocks_of variables given needed = variables ++ needed.zeros ∷ given ∷ needed.sizes
+blocks_of variables given needed = variables ++ needed.zeros ∷ given ∷ (needed.sizes ++ needed.heap ∷ [])
 
-abbrev pub first_frame : ℕ → List ℕ → Frame
-first_frame number variables = record { function = number; zeros = length variables; result = length variables + 1; free = length variables + 2 }
+-- over the number of the first literal's object
+abbrev pub first_frame : (literals number : ℕ) → List Variable → (temporaries : ℕ) → Frame
+first_frame literals number variables temporaries = record {
+  function = number;
+  variables = variables;
+  zeros = length variables;
+  result = length variables + 1;
+  free = length variables + 2;
+  heap = length variables + 2 + temporaries;
+  literals = literals;
+}
 
 -- a function that is only declared breaks an assertion; none that is admitted is called
-abbrev pub undefined_code : ℕ → Procedure → Routine
-undefined_code number f = record {
+abbrev pub undefined_code : (literals number : ℕ) → Procedure → Routine
+undefined_code literals number f = record {
   name = f.name;
   line = f.line;
   registers = Int ∷ [];
   blocks = [];
-  nodes = plain (at_line (first_frame number []) f.line (operations.Assert 0)) ends;
+  nodes = plain (at_line (first_frame literals number [] 0) f.line (operations.Assert 0)) ends;
   startable = false;
 }
 
 -- the code of a function with this number and body; no thread is started in one yet
-abbrev pub defined_code : ℕ → Procedure → Statement → Routine
-defined_code number f body = record {
-  name = f.name;
-  line = f.line;
-  registers = Int ∷ statement_types (sizes_of_variables f.variables) body;
-  blocks = blocks_of (sizes_of_variables f.variables) (given_size f.gives) (statement_temporaries body);
-  nodes = body_code (first_frame number (sizes_of_variables f.variables)) (sizes_of_variables f.variables) f.line body;
-  startable = false;
-}
+abbrev pub defined_code : (literals number : ℕ) → Procedure → Statement → Routine
+defined_code literals number f body =
+    let needed = statement_temporaries f.variables body in
+    record {
+      name = f.name;
+      line = f.line;
+      registers = Int ∷ (death_types f.variables ++ (statement_types f.variables body ++ parameters_types f.variables (length f.parameters)));
+      blocks = blocks_of (sizes_of_variables f.variables) (given_size f.gives) needed;
+      nodes = body_code (first_frame literals number f.variables (length needed.sizes)) f.line (length f.parameters) body;
+      startable = false;
+    }
 
-abbrev pub code_by : ℕ → Procedure → Option Statement → Routine
-code_by number f None = undefined_code number f
-code_by number f (Some body) = defined_code number f body
+abbrev pub code_by : (literals number : ℕ) → Procedure → Option Statement → Routine
+code_by literals number f None = undefined_code literals number f
+code_by literals number f (Some body) = defined_code literals number f body
 
-abbrev pub function_code : ℕ → Procedure → Routine
-function_code number f = code_by number f f.body
+abbrev pub function_code : (literals number : ℕ) → Procedure → Routine
+function_code literals number f = code_by literals number f f.body
 
 -- the codes of functions, the first of which has this number
-abbrev pub function_codes : ℕ → List Procedure → List Routine
-function_codes number [] = []
-function_codes number (f ∷ functions) = function_code number f ∷ function_codes (number + 1) functions
+abbrev pub function_codes : (literals number : ℕ) → List Procedure → List Routine
+function_codes literals number [] = []
+function_codes literals number (f ∷ functions) = function_code literals number f ∷ function_codes literals (number + 1) functions
+
+-- the literals' objects come behind the static ones, the first of which has the number 1
+abbrev pub first_literal : TypedFile → ℕ
+first_literal file = length file.objects + 1
 
 -- the codes of the functions by their numbers, the one that thread 0 calls, and the store at the start
 pub record LoweredFile : Type 0 where
@@ -72,7 +88,7 @@ view_goto g = record { functions = view_procedures g.functions; main = g.main; s
 -- the static objects and the literals are there at the start, unless they alone pass a limit
 abbrev pub lowered : TypedFile → LoweredFile
 lowered file = record {
-  functions = function_codes 0 file.functions;
+  functions = function_codes (first_literal file) 0 file.functions;
   main = main_number file.functions;
   store = if are_storable file then first_objects file else [];
 }

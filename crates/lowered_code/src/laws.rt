@@ -2,7 +2,7 @@
 
 ghost use Rattle.lowered_code.specs.Laws.{FitsTogether, IsStatic, KeepsMeaning};
 
-/// What the code of an admitted file without forms over pointers does as strict code, under the bounds of a command, is what the file means under them.
+/// What the code of an admitted file does as strict code, under the bounds of a command, is what the file means under them.
 pub fn lowering_keeps_meaning()
     ensures { KeepsMeaning }
 {}
@@ -12,7 +12,7 @@ pub fn lowered_code_fits()
     ensures { FitsTogether }
 {}
 
-/// Lowered code has no operations on pointers: there is no code yet for forms over them.
+/// The code of a file in which no form over pointers may stand has no operations on pointers.
 pub fn lowered_code_is_static()
     ensures { IsStatic }
 {}

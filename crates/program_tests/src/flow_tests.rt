@@ -2,7 +2,7 @@
 
 // Programs with functions, loops, switches and jumps: their runs on the machines of all stages, and their places.
 
-use crate::machines::{admitted, admitted_with_homes, outcomes_under, outcomes_within};
+use crate::machines::{admitted, admitted_with_homes, end_under, end_within};
 use core_tree::{Bounds, LoopBound, Name};
 use goto_unwind::count;
 use interleave::Outcome;
@@ -292,8 +292,13 @@ fn ending(check: Option<(Class, u32, u32)>) -> Outcome {
 // The first row whose run ends otherwise.
 fn wrong_run(alloc: Global, rows: &[Run]) -> Result<Option<usize>, Fail> {
     for (i, (text, unwind, word, check)) in rows.iter().enumerate() {
-        let found = outcomes_within(alloc, text.as_bytes(), &[*word, 0, 0], *unwind)?;
-        if found != [ending(*check); 6] {
+        if !end_within(
+            alloc,
+            text.as_bytes(),
+            &[*word, 0, 0],
+            *unwind,
+            ending(*check),
+        )? {
             return Ok(Some(i));
         }
     }
@@ -449,8 +454,10 @@ fn loops_have_bounds_of_their_own(rt: HostRuntime) -> Result<(), Fail> {
     for (function, class, line) in rows {
         let bounds = loop_bounds(alloc, function)?;
         let wanted = ending(Some((class, line, 0)));
-        let found = outcomes_under(alloc, text, &[0], &bounds)?;
-        assert!(rt; found == [wanted; 6], "line {line}");
+        assert!(rt;
+            end_under(alloc, text, &[0], &bounds, wanted)?,
+            "line {line}"
+        );
     }
     Ok(())
 }

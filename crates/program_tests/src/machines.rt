@@ -108,23 +108,6 @@ fn source_outcome(
     Ok(run(alloc, file, bounds, &script.inputs, &script.schedule)?)
 }
 
-// How the runs of a text's source end where each variable has an address, and where every second one has, in
-// turns enough to make and end these objects and for each of their accesses.
-fn outcomes_with_homes(
-    alloc: Global,
-    text: &[u8],
-    ints: &[i32],
-    bounds: &Bounds,
-) -> Result<[Outcome; 2], Fail> {
-    let script = script_of(alloc, ints, 400)?;
-    let all = admitted_with_homes(alloc, text, 1)?;
-    let some = admitted_with_homes(alloc, text, 2)?;
-    Ok([
-        source_outcome(alloc, &all, bounds, &script)?,
-        source_outcome(alloc, &some, bounds, &script)?,
-    ])
-}
-
 // How the runs of a file's strict, its checked and its unrolled code end.
 fn code_outcomes(
     alloc: Global,
@@ -132,9 +115,6 @@ fn code_outcomes(
     bounds: &Bounds,
     script: &Script,
 ) -> Result<[Outcome; 3], Fail> {
-    if file.core().pointers() {
-        return Err(Fail::from("forms over pointers"));
-    }
     let goto = lower(alloc, file)?;
     let first = StrictThread::new(alloc, &goto, bounds)?;
     let strict = end_of(alloc, first, goto.store(), script)?;
@@ -151,38 +131,56 @@ fn code_outcomes(
     }
 }
 
-// How the runs of a text end that draw these ints, in 24 turns of thread 0, under these bounds: the source's,
-// those of its strict, its checked and its unrolled code, and the source's where variables have an address.
-pub fn outcomes_under(
+// Whether the runs of a file end so: those of its source, and of its strict, its checked and its unrolled code.
+fn all_end(
+    alloc: Global,
+    file: &Admitted,
+    bounds: &Bounds,
+    script: &Script,
+    outcome: Outcome,
+) -> Result<bool, Fail> {
+    let source = source_outcome(alloc, file, bounds, script)?;
+    Ok(source == outcome && code_outcomes(alloc, file, bounds, script)? == [outcome; 3])
+}
+
+// Whether the runs of a text that draw these ints end so in 24 turns of thread 0, under these bounds; and where each variable has an
+// address, and where every second one has, in turns enough to make and end these objects and for each of their accesses.
+pub fn end_under(
     alloc: Global,
     text: &[u8],
     ints: &[i32],
     bounds: &Bounds,
-) -> Result<[Outcome; 6], Fail> {
+    outcome: Outcome,
+) -> Result<bool, Fail> {
+    let few = script_of(alloc, ints, 24)?;
+    let many = script_of(alloc, ints, 400)?;
     let file = admitted(alloc, text)?;
-    let script = script_of(alloc, ints, 24)?;
-    let source = source_outcome(alloc, &file, bounds, &script)?;
-    let [strict, plain, unrolled] = code_outcomes(alloc, &file, bounds, &script)?;
-    let [all, some] = outcomes_with_homes(alloc, text, ints, bounds)?;
-    Ok([source, strict, plain, unrolled, all, some])
+    let all = admitted_with_homes(alloc, text, 1)?;
+    let some = admitted_with_homes(alloc, text, 2)?;
+    Ok(
+        all_end(alloc, &file, bounds, &few, outcome)?
+            && all_end(alloc, &all, bounds, &many, outcome)?
+            && all_end(alloc, &some, bounds, &many, outcome)?,
+    )
 }
 
 // The same, where each loop's test may be evaluated so many times at an arrival and each function may have so
 // many activations.
-pub fn outcomes_within(
+pub fn end_within(
     alloc: Global,
     text: &[u8],
     ints: &[i32],
     bound: u32,
-) -> Result<[Outcome; 6], Fail> {
+    outcome: Outcome,
+) -> Result<bool, Fail> {
     if bound == 0 || bound > 1_000 {
         return Err(Fail::from("no bound"));
     }
     let bounds = Bounds::new(bound, Vec::new(alloc), true, 1, false);
-    outcomes_under(alloc, text, ints, &bounds)
+    end_under(alloc, text, ints, &bounds, outcome)
 }
 
 // The same, where each loop's test may be evaluated once and each function has one activation.
-pub fn outcomes(alloc: Global, text: &[u8], ints: &[i32]) -> Result<[Outcome; 6], Fail> {
-    outcomes_within(alloc, text, ints, 1)
+pub fn end_so(alloc: Global, text: &[u8], ints: &[i32], outcome: Outcome) -> Result<bool, Fail> {
+    end_within(alloc, text, ints, 1, outcome)
 }

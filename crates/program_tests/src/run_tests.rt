@@ -2,7 +2,7 @@
 
 // C text with its values, its checks and its runs, on the machines of all stages.
 
-use crate::machines::outcomes;
+use crate::machines::end_so;
 use interleave::Outcome;
 use std::alloc::{AllocError, Global};
 use std::test::*;
@@ -584,10 +584,10 @@ fn row_text(alloc: Global, row: &str, number: &str) -> Result<String, AllocError
 // Whether a row's expression is z and nothing else, on each machine, and also where variables have an address.
 fn holds(alloc: Global, row: &str) -> Result<bool, Fail> {
     let right = row_text(alloc, row, "z")?;
-    let held = outcomes(alloc, right.as_str().as_bytes(), &[])? == [Outcome::Fine; 6];
+    let held = end_so(alloc, right.as_str().as_bytes(), &[], Outcome::Fine)?;
     let other = row_text(alloc, row, "(z^1)")?;
     let wrong = broken(Class::Assertion, 1);
-    Ok(held && outcomes(alloc, other.as_str().as_bytes(), &[])? == [wrong; 6])
+    Ok(held && end_so(alloc, other.as_str().as_bytes(), &[], wrong)?)
 }
 
 // The first row that has another value, if one has.
@@ -628,8 +628,12 @@ fn objects_have_their_values(rt: HostRuntime) -> Result<(), Fail> {
 fn wrong_break(alloc: Global, rows: &[(&str, i32, i32, Class)]) -> Result<Option<usize>, Fail> {
     for (i, (expression, x, y, class)) in rows.iter().enumerate() {
         let text = equation(alloc, expression)?;
-        let found = outcomes(alloc, text.as_str().as_bytes(), &[*x, *y, 0])?;
-        if found != [broken(*class, 1); 6] {
+        if !end_so(
+            alloc,
+            text.as_str().as_bytes(),
+            &[*x, *y, 0],
+            broken(*class, 1),
+        )? {
             return Ok(Some(i));
         }
     }
@@ -653,8 +657,7 @@ fn ending(check: Option<(Class, u32)>) -> Outcome {
 // The first row whose run ends otherwise.
 fn wrong_run(alloc: Global, rows: &[Run]) -> Result<Option<usize>, Fail> {
     for (i, (text, x, y, z, check)) in rows.iter().enumerate() {
-        let found = outcomes(alloc, text.as_bytes(), &[*x, *y, *z])?;
-        if found != [ending(*check); 6] {
+        if !end_so(alloc, text.as_bytes(), &[*x, *y, *z], ending(*check))? {
             return Ok(Some(i));
         }
     }

@@ -97,6 +97,7 @@ fn unrolled_code(alloc: Global, file: &Admitted, bounds: &Bounds) -> Result<Unro
     ensures stop { IfErr result (λ s. StopsWith s (IsPassed bounds.now (view_core file.now))) }
 {
     prove_objects(file);
+    let _most = bounds.malloc_limit();
     if let Some(limit) = passed_limit(alloc, file, bounds)? {
         return Err(Stop::Limited(limit));
     }

@@ -7,4 +7,6 @@ mod action_tests;
 #[cfg(test)]
 mod count_tests;
 #[cfg(test)]
+mod machines;
+#[cfg(test)]
 mod row_tests;

@@ -5,11 +5,10 @@
 // comes there. Where the class is `none` no check breaks, and the turn is that of a further `assert(0)` at the end of the last
 // function, in a line of its own; where it is `stop` such an assertion isn't reached. The C text is what the tree stands for.
 
-use c_interp::run;
-use c_meaning::are_storable;
+use crate::machines::outcomes;
 use c_profile::{Admitted, admit};
 use core_tree::Bounds;
-use interleave::{Inputs, Outcome, Schedule, Words};
+use interleave::{Inputs, Outcome, Words};
 use std::alloc::{AllocError, Global};
 use std::test::*;
 use tree_notation::{Unread, tree_of};
@@ -243,20 +242,17 @@ pub fn admitted(alloc: Global, tree: &str) -> Result<Admitted, Unread> {
     }
 }
 
-// How so many turns of a file end that draws these words.
-fn outcome(
+// Whether so many turns of a file that draws these words end so, those of its source and of its code.
+fn end_so(
     alloc: Global,
     file: &Admitted,
     may_fail: bool,
     inputs: &Inputs,
     turns: u32,
-) -> Result<Outcome, Unread> {
-    if !are_storable(file) || turns > 1_000 {
-        return Err(Unread::Untyped);
-    }
+    outcome: Outcome,
+) -> Result<bool, Unread> {
     let bounds = Bounds::new(8, Vec::new(alloc), true, 256, may_fail);
-    let schedule = Schedule::new(vec![in alloc; 0; turns as usize]?);
-    Ok(run(alloc, file, &bounds, inputs, &schedule)?)
+    Ok(outcomes(alloc, file, &bounds, inputs, turns)? == [outcome; 4])
 }
 
 fn class_of(name: &str) -> Option<Class> {
@@ -329,15 +325,16 @@ fn breaks(
     check: Check,
 ) -> Result<bool, Unread> {
     let turns = wanted.turns;
-    let before = outcome(
+    let before = end_so(
         alloc,
         file,
         may_fail,
         &wanted.inputs,
         turns.saturating_sub(1),
+        Outcome::Fine,
     )?;
-    let found = outcome(alloc, file, may_fail, &wanted.inputs, turns)?;
-    Ok(before == Outcome::Fine && found == Outcome::Broken(check))
+    let broken = Outcome::Broken(check);
+    Ok(before && end_so(alloc, file, may_fail, &wanted.inputs, turns, broken)?)
 }
 
 // The tree with a false assertion at its end, in a line of its own.
@@ -353,7 +350,7 @@ fn is_fine(alloc: Global, tree: &str, may_fail: bool, wanted: &Wanted) -> Result
     let longer = with_assertion(alloc, tree)?;
     let file = admitted(alloc, longer.as_str())?;
     if wanted.name == "stop" {
-        return Ok(outcome(alloc, &file, may_fail, &wanted.inputs, 400)? == Outcome::Fine);
+        return end_so(alloc, &file, may_fail, &wanted.inputs, 400, Outcome::Fine);
     }
     let check = Check {
         class: Class::Assertion,
@@ -363,7 +360,7 @@ fn is_fine(alloc: Global, tree: &str, may_fail: bool, wanted: &Wanted) -> Result
     };
     let comes = breaks(alloc, &file, may_fail, wanted, check)?;
     let file = admitted(alloc, tree)?;
-    Ok(comes && outcome(alloc, &file, may_fail, &wanted.inputs, 400)? == Outcome::Fine)
+    Ok(comes && end_so(alloc, &file, may_fail, &wanted.inputs, 400, Outcome::Fine)?)
 }
 
 fn holds(alloc: Global, row: &str, may_fail: bool) -> Result<bool, Unread> {

@@ -4,7 +4,7 @@ use Rattle.c_temporaries.specs.Temporaries.{parts_temporaries, arguments_tempora
 use Rattle.c_temporaries.proofs.temporaries.+expression.Given as goal
 
 abbrev pub invariant-parts_temporaries-loop-place : goal.invariant-parts_temporaries-loop-place
-invariant-parts_temporaries-loop-place l = l.temporaries ≡ parts_temporaries (parts_of (drop l.place l.parts))
+invariant-parts_temporaries-loop-place l = l.temporaries ≡ parts_temporaries l.variables (parts_of (drop l.place l.parts))
 
 abbrev pub invariant-arguments_temporaries-loop-place : goal.invariant-arguments_temporaries-loop-place
-invariant-arguments_temporaries-loop-place l = l.temporaries ≡ arguments_temporaries (arguments_of (drop l.place l.arguments))
+invariant-arguments_temporaries-loop-place l = l.temporaries ≡ arguments_temporaries l.variables (arguments_of (drop l.place l.arguments))

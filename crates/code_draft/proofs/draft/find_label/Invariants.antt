@@ -4,4 +4,4 @@ use Rattle.code_draft.specs.Drafts.{place_of}
 use Rattle.code_draft.proofs.draft.find_label.Given as goal
 
 abbrev pub invariant-loop-k : goal.invariant-loop-k
-invariant-loop-k l = place_of (reverse (take l.k l.labels)) l.label ≡ place_of (reverse l.labels) l.label
+invariant-loop-k l = place_of (reverse (take l.k l.known)) l.label ≡ place_of (reverse l.known) l.label

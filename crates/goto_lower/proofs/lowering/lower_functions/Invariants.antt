@@ -5,4 +5,4 @@ use Rattle.lowered_code.specs.Lowered.{function_codes}
 use Rattle.goto_lower.proofs.lowering.lower_functions.Given as goal
 
 abbrev pub invariant-loop-number : goal.invariant-loop-number
-invariant-loop-number l = view_procedures l.procedures.items ++ function_codes l.number (view_functions (drop l.number l.functions)) ≡ function_codes 0 (view_functions l.functions)
+invariant-loop-number l = view_procedures l.procedures.items ++ function_codes l.literals l.number (view_functions (drop l.number l.functions)) ≡ function_codes l.literals 0 (view_functions l.functions)

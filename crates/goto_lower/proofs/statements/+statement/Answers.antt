@@ -1,27 +1,29 @@
-use Rattle.std.proofs.Common.{rules, ◌≡◌, ◌+◌, ◌-◌, Some, refl, ap, subst, sym, ◌∙◌, arith}
+use Rattle.std.proofs.Common.{rules, ◌≡◌, ℕ, ◌+◌, ◌-◌, ◌++◌, drop, Some, refl, ap, subst, sym, ◌∙◌, arith}
 use Rattle.std.specs.Prelude.{reverse, option_map}
-use Rattle.core_tree.specs.Trees.{block, switch, view, boxed, view_structure, view_statement, items_of}
+use Rattle.core_tree.specs.Trees.{Items, block, switch, stray, view, boxed, view_structure, view_statement, items_of}
 use Rattle.core_tree.proofs.Views.{view_block}
 use Rattle.c_profile.proofs.Switches.{view_switch}
 use Rattle.c_meaning.specs.Meaning.{number_type}
 use Rattle.goto_prog.specs.Nodes.{plain, nodes_of, node_count}
 use Rattle.goto_prog.specs.declared.code.Operation.TheVariants as operations
 use Rattle.lowered_code.specs.Lowering.{at_line, top, code, plains, to_place, test_code, initial_code, initial_store}
-use Rattle.lowered_code.specs.Registers.{types, structure_types}
+use Rattle.c_temporaries.specs.Accesses.{home_in}
+use Rattle.lowered_code.specs.Registers.{types, structure_types, initial_types}
 use Rattle.code_draft.specs.Drafts.{added, next}
-use Rattle.goto_lower.specs.Statements.{Drafted, typed}
+use Rattle.goto_lower.specs.Statements.{Within, Inside, Drafted, typed}
 use Rattle.code_draft.proofs.Drafting.{ok_maps}
 use Rattle.code_draft.proofs.Making.{reversed_count}
 use Rattle.goto_lower.proofs.Flushing.{flushed_draft, flushed_code}
-use Rattle.goto_lower.proofs.DraftingItems.{within_initializes, within_structure, within_does, within_label, within_case, within_default}
-use Rattle.goto_lower.proofs.DraftingControl.{ok_two, drafted_same, drafted_block, drafted_if, drafted_if_else, drafted_do, drafted_for, drafted_switch}
+use Rattle.goto_lower.proofs.DraftingItems.{inside_all, within_initializes, within_structure, within_does, within_label, within_case, within_default}
+use Rattle.goto_lower.proofs.DraftingSwitches.{items_at}
+use Rattle.goto_lower.proofs.DraftingControl.{ok_two, drafted_stray, drafted_same, drafted_block, drafted_if, drafted_if_else, drafted_do, drafted_for, drafted_switch}
 use Rattle.goto_lower.proofs.statements.+statement.Goals as goal
 
 pub block-returns : goal.block-returns
 block-returns t c =
     ok_two c.flush.result _ _ _ (λ last put.
-    drafted_block c.args.draft.now c.lower_items.new.draft c.enter.new.draft c.flush.new.self c.args.exits (items_of c.args.items.now) (nodes_of (reverse c.args.made.now.items)) _ _
-    c.requires c.in_ok-_cases.ensures.draft c.in_ok-_cases.ensures.code c.in_ok-enter.ensures put last)
+    drafted_block c.args.draft.now c.lower_inside.new.draft c.enter.new.draft c.flush.new.self c.args.exits (items_of c.args.items.now) c.in_ok-_cases._cases (nodes_of (reverse c.args.made.now.items)) _ _
+    c.requires c.in_ok-_cases.ensures c.in_ok-enter.ensures put last)
     c.flush.ensures.draft c.flush.ensures.code
 
 pub branches-returns : goal.branches-returns
@@ -52,7 +54,7 @@ do_loop-returns t c =
     drafted_do d c.lower_test.new.draft c.lower_statement.new.draft x c.in_ok-inner.inner e (view_statement c.args.body.now) c.args.line c.args.number c.in_ok-behind.behind c.len-2.result
     rest r1 (nodes_of (reverse c.lower_statement.new.made.items)) (nodes_of (reverse c.repeat.new.made.items))
     behind c.in_ok-lower_test.ensures.draft
-    (c.in_ok-lower_test.ensures.code ∙ ap (λ xs. plains (code d.frame e (next d)) (plain (at_line d.frame c.args.line (operations.SkipIfZero (next d + top e) 1)) (nodes_of (reverse xs)))) c.new-round.ensures.items)
+    (c.in_ok-lower_test.ensures.code ∙ ap (λ xs. plains (code d.frame e (next d)) (plain (at_line d.frame c.args.line (operations.SkipIfZero (next d + top d.frame.variables e) 1)) (nodes_of (reverse xs)))) c.new-round.ensures.items)
     count c.in_ok-inner.ensures c.in_ok-lower_statement.ensures loops)
     c.repeat.ensures
 
@@ -71,7 +73,7 @@ for_loop-returns t c =
     drafted_for d c.loop_test.new.draft c.evaluate_part.new.draft c.lower_statement.new.draft c.loop_test-2.new.draft c.evaluate_part-2.new.draft x c.in_ok-inner.inner first test last (view_statement c.args.body.now) c.args.line c.args.number c.in_ok-behind.behind c.len-2.result
     rest (nodes_of (reverse c.loop_test.new.made.items)) r2 (nodes_of (reverse c.lower_statement.new.made.items)) (nodes_of (reverse c.repeat.new.made.items)) (nodes_of (reverse c.loop_test-2.new.made.items)) (nodes_of (reverse c.evaluate_part-2.new.made.items))
     behind c.in_ok-loop_test.ensures.draft
-    (c.in_ok-loop_test.ensures.code ∙ ap (λ xs. plains (test_code d.frame d.variables c.args.line test (next d)) (nodes_of (reverse xs))) c.new-round.ensures.items)
+    (c.in_ok-loop_test.ensures.code ∙ ap (λ xs. plains (test_code d.frame c.args.line test (next d)) (nodes_of (reverse xs))) c.new-round.ensures.items)
     c.in_ok-evaluate_part.ensures.draft c.in_ok-evaluate_part.ensures.code count c.in_ok-inner.ensures c.in_ok-lower_statement.ensures c.in_ok-repeat.ensures
     c.in_ok-loop_test-2.ensures.draft c.in_ok-loop_test-2.ensures.code five begun)
     c.evaluate_part-2.ensures.draft c.evaluate_part-2.ensures.code
@@ -80,24 +82,31 @@ pub lower_item-returns-in-Initialize : goal.lower_item-returns-in-Initialize
 lower_item-returns-in-Initialize t c =
     let l = c.in-Initialize in
     let d = c.args.draft.now in
-    rw l.is (λ first rest others h. ok_two c.initialize_number.result _ _ _ (λ same put.
-    within_initializes first rest c.args.exits others c.args.draft.now (nodes_of (reverse c.args.made.now.items)) c.args.cases.now h c.initialize_number.new.draft (nodes_of (reverse c.initialize_number.new.made.items)) l.line l.variable l.drawn (view l.value.value)
-    (same ∙ ap (λ e. typed c.args.draft.now (types (view e))) c.deref.ensures)
-    (put ∙ ap (λ e. plains (code d.frame (view e) (next d)) (plain (initial_store d.frame d.variables l.line l.variable (number_type (view e)) (next d + top (view e))) (nodes_of (reverse c.args.made.now.items)))) c.deref.ensures))
+    let f = d.frame in
+    let vs = f.variables in
+    let n = next d in
+    let rest = nodes_of (reverse c.args.made.now.items) in
+    rw l.is (λ first behind others h. ok_two c.initialize_number.result _ _ _ (λ same put.
+    within_initializes first behind c.args.exits others d rest c.args.cases.now h c.initialize_number.new.draft (nodes_of (reverse c.initialize_number.new.made.items)) l.line l.variable l.drawn (view l.value.value)
+    (same ∙ ap (λ e. typed d (types vs (view e) ++ initial_types vs l.variable)) c.deref.ensures)
+    (put ∙ ap (λ e. plains (code f (view e) n) (plains (initial_store f l.line l.variable (home_in vs l.variable) (number_type (view e)) (n + top vs (view e)) (n + (top vs (view e) + 1))) rest)) c.deref.ensures))
     c.initialize_number.ensures.draft c.initialize_number.ensures.code)
 
 pub lower_item-returns-in_ok-initialize_structure-in-InitializeStructure : goal.lower_item-returns-in_ok-initialize_structure-in-InitializeStructure
 lower_item-returns-in_ok-initialize_structure-in-InitializeStructure t c =
     let l = c.in-InitializeStructure in
     let d = c.args.draft.now in
+    let vs = d.frame.variables in
     let a = view_structure l.value.value in
     let rest = nodes_of (reverse c.args.made.now.items) in
-    let xs = initial_code d.frame d.variables l.line l.variable a (next d) in
-    let more = c.in_ok-initialize_structure-in-InitializeStructure.ensures ∙ ap (λ b. added d (initial_code d.frame d.variables l.line l.variable (view_structure b) (next d)) (structure_types (view_structure b))) c.deref-in-InitializeStructure.ensures in
-    rw l.is (λ first others_behind others h. ok_two c.flush.result _ _ _ (λ last put.
-    within_structure first others_behind c.args.exits others d rest c.args.cases.now h c.flush.new.self (nodes_of (reverse c.flush.new.made.items)) l.line l.variable l.drawn a
-    (flushed_draft d c.initialize_structure.new.draft c.flush.new.self xs (structure_types a) c.requires more last)
-    (flushed_code d c.initialize_structure.new.draft xs (structure_types a) rest (nodes_of (reverse c.flush.new.made.items)) c.requires more put))
+    let xs = initial_code d.frame l.line l.variable a (next d) in
+    let ts = structure_types vs a ++ initial_types vs l.variable in
+    let more = c.in_ok-initialize_structure-in-InitializeStructure.ensures
+    ∙ ap (λ b. added d (initial_code d.frame l.line l.variable (view_structure b) (next d)) (structure_types vs (view_structure b) ++ initial_types vs l.variable)) c.deref-in-InitializeStructure.ensures in
+    rw l.is (λ first behind others h. ok_two c.flush.result _ _ _ (λ last put.
+    within_structure first behind c.args.exits others d rest c.args.cases.now h c.flush.new.self (nodes_of (reverse c.flush.new.made.items)) l.line l.variable l.drawn a
+    (flushed_draft d c.initialize_structure.new.draft c.flush.new.self xs ts c.requires more last)
+    (flushed_code d c.initialize_structure.new.draft xs ts rest (nodes_of (reverse c.flush.new.made.items)) c.requires more put))
     c.flush.ensures.draft c.flush.ensures.code)
 
 pub lower_item-returns-in-Statement : goal.lower_item-returns-in-Statement
@@ -132,6 +141,13 @@ lower_item-returns-in_ok-place-in-Default t c =
     rw l.is (λ first behind others h.
     within_default first behind c.args.exits others c.args.draft.now rest c.args.cases.now h (record { places = c.args.cases.now.places; otherwise = Some c.in_ok-place-in-Default.place }) l.line c.in_ok-place-in-Default.place place refl refl)
 
+pub lower_inside-returns : goal.lower_inside-returns
+lower_inside-returns t c =
+    inside_all c.args.draft.now c.live_items.new.draft c.leave_before.new.draft c.lower_items.new.draft c.forget.new.self c.args.exits c.in_ok-inner.inner (items_of c.args.items.now)
+    (nodes_of (reverse c.args.made.now.items)) (nodes_of (reverse c.leave_before.new.made.items)) (nodes_of (reverse c.lower_items.new.made.items)) c.in_ok-cases.cases c.known-known.result c.in_ok-count.count
+    c.known-known.ensures c.in_ok-count.ensures.draft c.in_ok-count.ensures.count c.in_ok-leave_before.ensures.draft c.in_ok-leave_before.ensures.code c.in_ok-inner.ensures
+    c.in_ok-cases.ensures.draft c.in_ok-cases.ensures.code c.in_ok-cases.ensures.cases c.in_ok-cases.ensures.otherwise c.forget.ensures
+
 pub lower_statement-returns-in-Block : goal.lower_statement-returns-in-Block
 lower_statement-returns-in-Block t c = drafted_same _ _ _ _ _ _ _ _ (ap (λ xs. block (items_of xs)) c.deref.ensures.value ∙ sym (ap view_statement c.in-Block.is ∙ view_block c.in-Block.items)) c.block.ensures
 
@@ -158,11 +174,32 @@ switch-returns t c =
     let x = c.args.exits in
     let rest = nodes_of (reverse c.args.made.now.items) in
     let cases = c.in_ok-cases.cases in
+    let f = c.lower_inside.new.draft.frame in
+    let n1 = nodes_of (reverse c.lower_inside.new.made.items) in
     let count : c.len-count.result ≡ node_count rest = omega (arith, c.len-count.ensures, reversed_count c.args.made.now.items) in
     ok_two c.choose.result _ _ _ (λ last chosen.
-    drafted_switch d c.lower_items.new.draft c.enter_switch.new.draft c.choose.new.draft x (record { base = x.base; break_at = c.in_ok-behind.behind; continue_at = x.continue_at }) (view c.args.value.now) (items_of c.args.items.now) c.args.line c.in_ok-behind.behind c.len-count.result c.in_ok-register.register cases.places.items cases.otherwise
-    rest (nodes_of (reverse c.lower_items.new.made.items)) (nodes_of (reverse c.jump_to.new.made.items)) (nodes_of (reverse c.enter_switch.new.made.items)) (nodes_of (reverse c.choose.new.made.items))
-    count c.in_ok-behind.ensures refl c.in_ok-cases.ensures.draft c.in_ok-cases.ensures.code c.in_ok-cases.ensures.cases c.in_ok-cases.ensures.otherwise
-    (c.in_ok-jump_to.ensures ∙ ap (λ p. to_place c.lower_items.new.draft.frame c.lower_items.new.draft.variables c.args.line x.base p (nodes_of (reverse c.lower_items.new.made.items))) c.unwrap_or.ensures)
+    drafted_switch d c.lower_inside.new.draft c.enter_switch.new.draft c.choose.new.draft x (view c.args.value.now) (items_of c.args.items.now) cases c.args.line c.in_ok-behind.behind c.len-count.result c.in_ok-register.register
+    rest n1 (nodes_of (reverse c.jump_to.new.made.items)) (nodes_of (reverse c.enter_switch.new.made.items)) (nodes_of (reverse c.choose.new.made.items))
+    count c.in_ok-behind.ensures
+    (subst (λ y. Inside d c.lower_inside.new.draft rest n1 y (items_of c.args.items.now) cases) c.within_switch-inner.ensures c.in_ok-cases.ensures)
+    (c.in_ok-jump_to.ensures ∙ ap (λ p. to_place f c.args.line x.base p n1) c.unwrap_or.ensures)
     c.in_ok-register.ensures.draft c.in_ok-register.ensures.value c.in_ok-register.ensures.code last chosen)
     c.choose.ensures.draft c.choose.ensures.code
+
+pub lower_items-loop-place-preserved : goal.lower_items-loop-place-preserved
+lower_items-loop-place-preserved t c =
+    let l = c.loop-place in
+    let d = c.args.draft.now in
+    let xs = c.args.items.now in
+    let rest = nodes_of (reverse c.args.made.now.items) in
+    let at : l.place ≡ (l.place - 1) + 1 = omega arith in
+    let before = subst (λ (k : ℕ). Within d rest c.args.exits (items_of (drop k xs)) l.draft (nodes_of (reverse l.made.items)) l.cases) at l.invariant in
+    subst (λ (is : Items). Within d rest c.args.exits is c.lower_item.new.draft (nodes_of (reverse c.lower_item.new.made.items)) c.lower_item.new.cases)
+    (sym (items_at xs (l.place - 1) c.index-items-place.result (omega arith) c.index-items-place.is))
+    (c.in_ok-lower_item.ensures d rest (items_of (drop ((l.place - 1) + 1) xs)) before)
+
+pub lower_statement-returns-in-Stray : goal.lower_statement-returns-in-Stray
+lower_statement-returns-in-Stray t c =
+    let l = c.in-Stray in
+    drafted_same _ _ _ _ _ _ _ _ ((λ i. stray l.line (view_statement (c.deref-in-Stray.ensures i))) ∙ sym (ap view_statement l.is))
+    (drafted_stray c.lower_statement-in-Stray.result _ _ _ _ _ l.line (view_statement c.deref-in-Stray.result.now) c.lower_statement-in-Stray.ensures)

@@ -27,10 +27,13 @@ abbrev pub decreases-lower_items : goal.decreases-lower_items
 decreases-lower_items l = 4 * goal.size-lower_items l + 1
 
 abbrev pub decreases-block : goal.decreases-block
-decreases-block l = 4 * goal.size-block l + 2
+decreases-block l = 4 * goal.size-block l + 3
+
+abbrev pub decreases-lower_inside : goal.decreases-lower_inside
+decreases-lower_inside l = 4 * goal.size-lower_inside l + 2
 
 abbrev pub decreases-switch : goal.decreases-switch
-decreases-switch l = 4 * most item.the_size l.items.now + 2
+decreases-switch l = 4 * most item.the_size l.items.now + 3
 
 abbrev pub invariant-lower_items-loop-place : goal.invariant-lower_items-loop-place
 invariant-lower_items-loop-place l = Within l.initial.draft (nodes_of (reverse l.initial.made.items)) l.exits (items_of (drop l.place l.items)) l.draft (nodes_of (reverse l.made.items)) l.cases

@@ -15,7 +15,7 @@ returns-in-Some-clause-code c =
     let e = boxed c.in-Some.test in
     let rest = nodes_of (reverse c.args.made.now.items) in
     ok_maps c.lower_test.result _ _ (λ same. same
-    ∙ ap (λ x. plains (code d.frame (view x) (next d)) (plain (at_line d.frame c.args.line (operations.SkipIfZero (next d + top (view x)) 1)) rest)) c.deref.ensures
-    ∙ sym (plains_append (code d.frame e (next d)) (at_line d.frame c.args.line (operations.SkipIfZero (next d + top e) 1) ∷ []) rest)
-    ∙ sym (ap (λ o. plains (test_code d.frame d.variables c.args.line (option_map boxed o) (next d)) rest) c.in-Some.is))
+    ∙ ap (λ x. plains (code d.frame (view x) (next d)) (plain (at_line d.frame c.args.line (operations.SkipIfZero (next d + top d.frame.variables (view x)) 1)) rest)) c.deref.ensures
+    ∙ sym (plains_append (code d.frame e (next d)) (at_line d.frame c.args.line (operations.SkipIfZero (next d + top d.frame.variables e) 1) ∷ []) rest)
+    ∙ sym (ap (λ o. plains (test_code d.frame c.args.line (option_map boxed o) (next d)) rest) c.in-Some.is))
     c.lower_test.ensures.code

@@ -13,7 +13,7 @@ loop-case-preserved c =
     λ first is.
     (let so_far = c.loop-case.invariant first is in (
       omega (arith, so_far.0, c.saturating_sub-into.ensures),
-      jumps_more f.frame f.variables c.args.base c.args.value n c.loop-case.into c.args.places.now k _ _ _ (nodes_of (reverse c.args.made.now.items)) (omega arith) (either_default c.args.places.now k _ _ (omega arith)) (omega (arith, so_far.0, c.saturating_sub-into.ensures)) so_far.1 c.in_ok-case_jump.ensures,
+      jumps_more f.frame c.args.base c.args.value n c.loop-case.into c.args.places.now k _ _ _ (nodes_of (reverse c.args.made.now.items)) (omega arith) (either_default c.args.places.now k _ _ (omega arith)) (omega (arith, so_far.0, c.saturating_sub-into.ensures)) so_far.1 c.in_ok-case_jump.ensures,
     ))
 
 pub returns : goal.returns
@@ -23,5 +23,5 @@ returns c =
     λ first is.
     (let so_far = l.invariant first is in
     let at : l.into ≡ first = omega (arith, so_far.0, c.loop-case-test.false) in
-    jumps_all f.frame f.variables c.args.base c.args.value first c.args.places.now l.case-index (nodes_of (reverse l.made.items)) (nodes_of (reverse c.args.made.now.items)) (omega arith)
-    (so_far.1 ∙ ap (λ m. jumps_to f.frame f.variables c.args.base c.args.value m (reverse (take l.case-index c.args.places.now)) (nodes_of (reverse c.args.made.now.items))) at))
+    jumps_all f.frame c.args.base c.args.value first c.args.places.now l.case-index (nodes_of (reverse l.made.items)) (nodes_of (reverse c.args.made.now.items)) (omega arith)
+    (so_far.1 ∙ ap (λ m. jumps_to f.frame c.args.base c.args.value m (reverse (take l.case-index c.args.places.now)) (nodes_of (reverse c.args.made.now.items))) at))

@@ -9,5 +9,5 @@ use Rattle.goto_lower.proofs.switches.case_registers.Given as goal
 abbrev pub invariant-loop-item : goal.invariant-loop-item
 invariant-loop-item l = record {
   draft : typed l.draft (case_types (items_of (drop l.item-index l.items))) ≡ typed l.initial.draft (case_types (items_of l.items));
-  last : last_case l.draft.frame l.draft.variables l.last (items_of (drop l.item-index l.items)) (next l.draft) ≡ last_case l.initial.draft.frame l.initial.draft.variables l.before (items_of l.items) (next l.initial.draft);
+  last : last_case l.draft.frame l.last (items_of (drop l.item-index l.items)) (next l.draft) ≡ last_case l.initial.draft.frame l.before (items_of l.items) (next l.initial.draft);
 }

@@ -19,5 +19,5 @@ returns-clause-code c =
     (way_adds c.args.draft.now c.register.new.self c.register-2.new.self d3 c.enter.new.draft c.flush.new.self (items_of c.args.items.now) t c.args.base c.in_ok-before.before c.in_ok-value.value places
     body (nodes_of (reverse c.case_jumps.new.made.items)) (nodes_of (reverse c.flush.new.made.items))
     c.requires c.in_ok-before.ensures.code c.in_ok-before.ensures.number (c.in_ok-value.ensures.code ∙ ap (λ u. added c.register.new.self [] (u ∷ [])) c.number_type.ensures) c.in_ok-value.ensures.number c.in_ok-last.ensures.draft
-    (λ first is. c.in_ok-case_jumps.ensures first (c.next.ensures ∙ is ∙ ap (λ (ps : List CasePlace). first + 5 * length ps) (sym same)) ∙ ap (λ (ps : List CasePlace). jumps_to d3.frame d3.variables c.args.base c.in_ok-value.value first (reverse ps) body) same)
+    (λ first is. c.in_ok-case_jumps.ensures first (c.next.ensures ∙ is ∙ ap (λ (ps : List CasePlace). first + 5 * length ps) (sym same)) ∙ ap (λ (ps : List CasePlace). jumps_to d3.frame c.args.base c.in_ok-value.value first (reverse ps) body) same)
     c.in_ok-enter.ensures c.in_ok-flush.ensures.code c.in_ok-flush.ensures.draft).1

@@ -1,4 +1,4 @@
-use Rattle.std.proofs.Common.{sym, ◌∙◌, subst}
+use Rattle.std.proofs.Common.{◌≤◌, sym, ◌∙◌, subst, arith}
 use Rattle.core_tree.specs.Trees.{view_core}
 use Rattle.guarded_ssa.specs.Accesses.{AreObjects}
 use Rattle.run_search.proofs.FirstStores.{storable}
@@ -9,7 +9,8 @@ pub returns-in-Ok-clause-same : goal.returns-in-Ok-clause-same
 returns-in-Ok-clause-same c =
     let none = none_start (view_core c.args.file.now) c.in_ok-lowered.lowered c.in_ok-checked.checked c.in_ok-lowered.ensures.code c.in_ok-checked.ensures.code in
     let limits = c.args.bounds.now in
-    (c.in-Ok.ensures.same none).behaves ∙ (c.in_ok-checked.ensures.same limits).behaves ∙ (c.in_ok-lowered.ensures.same limits).behaves
+    let few : limits.malloc_limit ≤ 4096 = omega (arith, c.malloc_limit-most.ensures.is, c.malloc_limit-most.ensures.at_most_4096) in
+    (c.in-Ok.ensures.same none).behaves ∙ (c.in_ok-checked.ensures.same limits).behaves ∙ (c.in_ok-lowered.ensures.same limits few).behaves
 
 pub returns-in-Ok-clause-store : goal.returns-in-Ok-clause-store
 returns-in-Ok-clause-store c =

@@ -1,11 +1,16 @@
-use Rattle.std.proofs.Common.{rules, ◌≡◌, ℕ, ◌+◌, ap, subst, sym, ◌∙◌, arith}
+use Rattle.std.proofs.Common.{rules, ◌≡◌, ℕ, ℤ, ◌+◌, false, true, w64, to_z, of_z, ap, subst, sym, ◌∙◌, arith}
+use Rattle.std.proofs.lemmas.Int.{to_z-of_z, to_z_pos}
+use Rattle.std.specs.Prelude.{pos}
 use Rattle.std.proofs.lemmas.Result.{IfOk-weaker}
-use Rattle.core_tree.specs.Trees.{call, view, Structure, view_structure, parts_of, arguments_of}
+use Rattle.core_tree.specs.Trees.{call, view, view_place, Structure, view_structure, parts_of, arguments_of}
+use Rattle.core_tree.specs.Typed.{size_of}
 use Rattle.core_tree.proofs.Views.{view_list, view_call, view_give}
-use Rattle.code_draft.specs.Drafts.{Lowers, after_structure, after_parts, after_text, after_arguments, after_passed}
-use Rattle.lowered_code.specs.Lowering.{argument_count}
+use Rattle.c_meaning.specs.Meaning.{place_line}
+use Rattle.code_draft.specs.Drafts.{next, added, Lowers, after_structure, after_parts, after_text, after_arguments, after_passed}
+use Rattle.lowered_code.specs.Lowering.{argument_count, move_code}
 use Rattle.code_draft.proofs.Drafting.{ok_both, ok_maps, lowers_and, lowers_or, lowers_choice}
-use Rattle.code_draft.proofs.DraftingStructures.{lowers_discarded, lowers_member, number_adds, structure_adds, follow_adds, list_adds, string_adds, choose_adds}
+use Rattle.code_draft.proofs.DraftingPointers.{two_words, leads_element, leads_swapped_element, leads_subscript, leads_swapped_subscript, lowers_sum, lowers_swapped_sum}
+use Rattle.code_draft.proofs.DraftingStructures.{lowers_discarded, lowers_member, number_adds, structure_adds, put_adds, follow_adds, list_adds, string_adds, choose_adds}
 use Rattle.code_draft.proofs.DraftingCalls.{argument_length, number_argument_adds, structure_argument_adds, passed_adds, passed_of, lowers_call, lowers_same, give_adds}
 use Rattle.code_draft.proofs.draft.Draft.+expression.Goals as goal
 
@@ -136,3 +141,77 @@ structure-returns-in_ok-call_passed-in-Call t c =
     c.in_ok-call_passed-in-Call.ensures same
     ∙ ap (λ (a : Structure). after_structure d a c.args.into c.args.at) (sym whole))
     c.push-in-Call.ensures
+
+pub element-returns-in_ok-pointer : goal.element-returns-in_ok-pointer
+element-returns-in_ok-pointer t c =
+    ok_both _ _ _ _ c.move_within.ensures.code c.move_within.ensures.value (λ r n v.
+    leads_swapped_element c.args.self.now c.expression.new.self c.place.new.self c.move_within.new.self (view_place c.args.place.now) (view c.args.index.now) c.in_ok-pointer.pointer c.in_ok-i.i c.args.line c.args.size c.args.whole r c.args.swapped
+    c.if-swapped.true c.in_ok-i.ensures c.in_ok-pointer.ensures n v)
+
+pub element-returns-in_ok-i-2 : goal.element-returns-in_ok-i-2
+element-returns-in_ok-i-2 t c =
+    ok_both _ _ _ _ c.move_within-else-swapped.ensures.code c.move_within-else-swapped.ensures.value (λ r n v.
+    leads_element c.args.self.now c.place-else-swapped.new.self c.expression-else-swapped.new.self c.move_within-else-swapped.new.self (view_place c.args.place.now) (view c.args.index.now) c.in_ok-pointer-2.pointer c.in_ok-i-2.i c.args.line c.args.size c.args.whole r c.args.swapped
+    c.if-swapped.false c.in_ok-pointer-2.ensures c.in_ok-i-2.ensures n v)
+
+pub subscript-returns-in_ok-p : goal.subscript-returns-in_ok-p
+subscript-returns-in_ok-p t c =
+    let d = c.expression-then-swapped.new.self in
+    let x = c.in_ok-p.p in
+    let y = c.in_ok-i.i in
+    let passed : to_z w64 c.args.size ≡ pos c.args.size = to_z_pos w64 c.args.size (omega (arith, c.ranges.size.fits)) in
+    ok_both _ _ _ _ c.move_by.ensures.code c.move_by.ensures.value (λ r n v.
+    leads_swapped_subscript c.args.self.now c.expression.new.self d c.move_by.new.self (view c.args.pointer.now) (view c.args.index.now) x y c.args.line c.args.size r c.args.swapped
+    c.if-swapped.true c.in_ok-i.ensures c.in_ok-p.ensures
+    (n ∙ ap (λ (s : ℤ). added d (move_code d.frame true c.args.line x.register y.register y.type_ s (next d)) two_words) passed) v)
+
+pub subscript-returns-in_ok-i-2 : goal.subscript-returns-in_ok-i-2
+subscript-returns-in_ok-i-2 t c =
+    let d = c.expression-else-swapped-2.new.self in
+    let x = c.in_ok-p-2.p in
+    let y = c.in_ok-i-2.i in
+    let passed : to_z w64 c.args.size ≡ pos c.args.size = to_z_pos w64 c.args.size (omega (arith, c.ranges.size.fits)) in
+    ok_both _ _ _ _ c.move_by-else-swapped.ensures.code c.move_by-else-swapped.ensures.value (λ r n v.
+    leads_subscript c.args.self.now c.expression-else-swapped.new.self d c.move_by-else-swapped.new.self (view c.args.pointer.now) (view c.args.index.now) x y c.args.line c.args.size r c.args.swapped
+    c.if-swapped.false c.in_ok-p-2.ensures c.in_ok-i-2.ensures
+    (n ∙ ap (λ (s : ℤ). added d (move_code d.frame true c.args.line x.register y.register y.type_ s (next d)) two_words) passed) v)
+
+pub sum-returns-in_ok-p : goal.sum-returns-in_ok-p
+sum-returns-in_ok-p t c =
+    let d = c.expression-then-swapped.new.self in
+    let x = c.in_ok-p.p in
+    let y = c.in_ok-i.i in
+    let passed : to_z w64 (of_z w64 c.args.step) ≡ c.args.step = to_z-of_z w64 c.args.step c.ranges.step in
+    ok_both _ _ _ _ c.move_sum.ensures.code c.move_sum.ensures.value (λ z n v.
+    lowers_swapped_sum c.args.self.now c.expression.new.self d c.move_sum.new.self (view c.args.pointer.now) (view c.args.index.now) x y z c.args.line c.args.step c.args.swapped
+    c.if-swapped.true c.in_ok-i.ensures c.in_ok-p.ensures
+    (n ∙ ap (λ (s : ℤ). added d (move_code d.frame false c.args.line x.register y.register y.type_ s (next d)) two_words) passed) v)
+
+pub sum-returns-in_ok-i-2 : goal.sum-returns-in_ok-i-2
+sum-returns-in_ok-i-2 t c =
+    let d = c.expression-else-swapped-2.new.self in
+    let x = c.in_ok-p-2.p in
+    let y = c.in_ok-i-2.i in
+    let passed : to_z w64 (of_z w64 c.args.step) ≡ c.args.step = to_z-of_z w64 c.args.step c.ranges.step in
+    ok_both _ _ _ _ c.move_sum-else-swapped.ensures.code c.move_sum-else-swapped.ensures.value (λ z n v.
+    lowers_sum c.args.self.now c.expression-else-swapped.new.self d c.move_sum-else-swapped.new.self (view c.args.pointer.now) (view c.args.index.now) x y z c.args.line c.args.step c.args.swapped
+    c.if-swapped.false c.in_ok-p-2.ensures c.in_ok-i-2.ensures
+    (n ∙ ap (λ (s : ℤ). added d (move_code d.frame false c.args.line x.register y.register y.type_ s (next d)) two_words) passed) v)
+
+pub structure-returns-in_ok-structure-in-Assign : goal.structure-returns-in_ok-structure-in-Assign
+structure-returns-in_ok-structure-in-Assign t c =
+    let size = c.structure_size.ensures ∙ ap (λ a. size_of (view_structure a)) (c.deref-in-Assign-3.ensures ∙ sym c.deref-in-Assign-2.ensures) in
+    let h = ok_maps _ _ _ (λ same. put_adds c.args.into c.args.at c.args.self.now c.reach.new.self c.structure-in-Assign.new.self c.put_bytes.new.self (view_place c.deref-in-Assign.result.now) c.in_ok-way-in-Assign.way (view_structure c.deref-in-Assign-2.result.now) c.in-Assign.line c.structure_size.result
+    c.in_ok-way-in-Assign.ensures c.in_ok-structure-in-Assign.ensures size same) c.put_bytes.ensures in
+    search (rules, h)
+
+pub place-returns-in_ok-x-in-Pointed : goal.place-returns-in_ok-x-in-Pointed
+place-returns-in_ok-x-in-Pointed t c =
+    let h = c.pointed.ensures c.args.self.now c.expression.new.self c.in-Pointed.line (view c.deref.result.now) c.in_ok-x-in-Pointed.ensures in
+    search (rules, h)
+
+pub expression-returns-in_ok-x-in-PointerUpdate : goal.expression-returns-in_ok-x-in-PointerUpdate
+expression-returns-in_ok-x-in-PointerUpdate t c =
+    let at = c.line_of_place-at-in-PointerUpdate.ensures ∙ ap (λ p. place_line (view_place p)) (c.deref-in-PointerUpdate-3.ensures ∙ sym c.deref-in-PointerUpdate.ensures) in
+    let h = c.pointer_update.ensures c.args.self.now c.reach-in-PointerUpdate.new.self (view_place c.deref-in-PointerUpdate.result.now) (view c.deref-in-PointerUpdate-2.result.now) at c.in_ok-way-in-PointerUpdate.ensures c.in_ok-x-in-PointerUpdate.ensures in
+    search (rules, h)

@@ -1,5 +1,6 @@
 use Rattle.std.proofs.Common.{◌≡◌, ◌+◌, ◌*◌, max, drop}
 use Rattle.core_tree.proofs.expression.CoreExpr.TheLaws.{the_size}
+use Rattle.core_tree.proofs.expression.Place.TheLaws as place
 use Rattle.core_tree.specs.Trees.{parts_of, arguments_of}
 use Rattle.code_draft.specs.Drafts.{after_parts, after_arguments}
 use Rattle.code_draft.proofs.draft.Draft.+expression.Given as goal
@@ -15,6 +16,27 @@ decreases-and l = 4 * the_size l.right.now + 1
 
 abbrev pub decreases-or : goal.decreases-or
 decreases-or l = 4 * the_size l.right.now + 1
+
+abbrev pub decreases-place : goal.decreases-place
+decreases-place l = 4 * goal.size-place l
+
+abbrev pub decreases-reach : goal.decreases-reach
+decreases-reach l = 4 * goal.size-reach l + 1
+
+abbrev pub decreases-address : goal.decreases-address
+decreases-address l = 4 * goal.size-address l + 1
+
+abbrev pub decreases-read_structure : goal.decreases-read_structure
+decreases-read_structure l = 4 * goal.size-read_structure l + 2
+
+abbrev pub decreases-element : goal.decreases-element
+decreases-element l = 4 * max (place.the_size l.place.now) (the_size l.index.now) + 1
+
+abbrev pub decreases-subscript : goal.decreases-subscript
+decreases-subscript l = 4 * max (the_size l.pointer.now) (the_size l.index.now) + 1
+
+abbrev pub decreases-sum : goal.decreases-sum
+decreases-sum l = 4 * max (the_size l.pointer.now) (the_size l.index.now) + 1
 
 abbrev pub decreases-structure : goal.decreases-structure
 decreases-structure l = 4 * goal.size-structure l
