@@ -3,7 +3,7 @@ use Rattle.std.proofs.Common.{◌≡◌, ℕ, ◌-◌, ◌<◌, ◌≤◌, Bool,
 use Rattle.std.specs.Prelude.{nat_eq, nat_lt, option_map, if◌then◌else◌}
 use Rattle.std.specs.List.{list_any, IsDistinct, AllByRecursion}
 use Rattle.std.proofs.lemmas.List.{get_or-reverse, length-reverse, length-map}
-use Rattle.std.proofs.lemmas.Bool.{eqb-true, eqb-false, ne_eqb, cases_Bool, cases_eq, lt-ltb, le-ltb, ltb-true}
+use Rattle.std.proofs.lemmas.Bool.{eqb-true, eqb-false, eq-eqb, ne_eqb, cases_Bool, cases_eq, lt-ltb, le-ltb, ltb-true}
 use Rattle.std.proofs.lemmas.Map.Keys.{IsDistinct-cons}
 use Rattle.std.proofs.lemmas.Map.Steps.{length-le_from_distinct_below}
 use Rattle.cdcl_core.specs.declared.trail.Step.{Step}
@@ -187,4 +187,38 @@ marks-popped marks s older are fresh v within =
           get_or-set_other marks s.literal.variable v None None other
           ∙ are v inside
           ∙ ap (λ t. if t then Some (record { value = not s.literal.negated; place = length older }) else mark_of older v) (ne_eqb s.literal.variable v (λ e. other (sym e)))
+    ]
+
+-- the values of the steps without the newest
+pub values-popped :
+    (n : ℕ) (values : List (Option Bool)) (s : Step) (older : List Step) → length values ≡ n →
+    ((v : ℕ) → v < n → get_or values v None ≡ known_value (s ∷ older) v) →
+    AreFresh n (s ∷ older) →
+    (v : ℕ) → v < n → get_or (set values s.literal.variable None) v None ≡ known_value older v
+values-popped n values s older count are fresh v within =
+    elim (cases_eq v s.literal.variable) [
+      | inl same ↦
+          subst (λ w. get_or (set values s.literal.variable None) w None ≡ known_value older w) (sym same)
+          (get_or-set_same values s.literal.variable None None (subst (λ k. s.literal.variable < k) (sym count) fresh.0) ∙ sym fresh.1)
+      | inr other ↦
+          get_or-set_other values s.literal.variable v None None other
+          ∙ are v within
+          ∙ ap (λ t. if t then Some (not s.literal.negated) else known_value older v) (ne_eqb s.literal.variable v (λ e. other (sym e)))
+    ]
+
+-- .. and with one more
+pub values-pushed :
+    (n : ℕ) (values : List (Option Bool)) (s : Step) (older : List Step) → length values ≡ n → s.literal.variable < n →
+    ((v : ℕ) → v < n → get_or values v None ≡ known_value older v) →
+    (v : ℕ) → v < n → get_or (set values s.literal.variable (Some (not s.literal.negated))) v None ≡ known_value (s ∷ older) v
+values-pushed n values s older count inside are v within =
+    elim (cases_eq v s.literal.variable) [
+      | inl same ↦
+          subst (λ w. get_or (set values s.literal.variable (Some (not s.literal.negated))) w None ≡ known_value (s ∷ older) w) (sym same)
+          (get_or-set_same values s.literal.variable (Some (not s.literal.negated)) None (subst (λ k. s.literal.variable < k) (sym count) inside)
+          ∙ sym (ap (λ t. if t then Some (not s.literal.negated) else known_value older s.literal.variable) (eq-eqb s.literal.variable s.literal.variable refl)))
+      | inr other ↦
+          get_or-set_other values s.literal.variable v (Some (not s.literal.negated)) None other
+          ∙ are v within
+          ∙ sym (ap (λ t. if t then Some (not s.literal.negated) else known_value older v) (ne_eqb s.literal.variable v (λ e. other (sym e))))
     ]

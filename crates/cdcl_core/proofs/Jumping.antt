@@ -84,10 +84,10 @@ jump_others n cs steps places c l hints beside kept index j first = λ m at othe
     known_truth-between n kept (get_or places index 0) steps m false j.fresh first.from (j.newest.others m at other)
 
 -- before each older decision the two watched literals are open
-pub jump_quiet : (n : ℕ) (cs : List (List Literal)) (steps : List Step) (places : List ℕ) (c : List Literal) (l : Literal) (hints : List ℕ) (beside : Literal) (kept index : ℕ) →
+pub jump_quiet : (n : ℕ) (cs : List (List Literal)) (steps : List Step) (places : List ℕ) (c : List Literal) (l : Literal) (hints : List ℕ) (beside : Literal) (kept index start : ℕ) →
     IsJump n cs steps places c l hints beside kept → IsFirstFrom places kept index →
-    (d : ℕ) → Contains (decision_places (oldest (get_or places index 0) steps)) d → AreOpen (oldest d (oldest (get_or places index 0) steps)) c (record { first = l; second = beside })
-jump_quiet n cs steps places c l hints beside kept index j first d at =
+    (d : ℕ) → Contains (decision_places (oldest (get_or places index 0) steps)) d → AreOpen (oldest d (oldest (get_or places index 0) steps)) c (record { first = l; second = beside; start = start })
+jump_quiet n cs steps places c l hints beside kept index start j first d at =
     let count : ℕ = get_or places index 0 in
     let inside : index < length (decision_places steps) = subst (λ ns. index < length ns) j.places_are first.within in
     let same : decision_places (oldest count steps) ≡ take index places =
@@ -100,7 +100,7 @@ jump_quiet n cs steps places c l hints beside kept index j first d at =
     let most : d ≤ j.learned.newest = omega (arith, less, kept_most n cs steps places c l hints beside kept j) in
     let other : beside ≢ l = j.newest.apart d less in
     let none : known_truth (oldest d steps) l ≡ None = open_before n d j.learned.newest steps l j.fresh most j.learned.open_ in
-    subst (λ (x : List Step). AreOpen x c (record { first = l; second = beside })) (sym (oldest-oldest d count steps (omega (arith, less, first.from))))
+    subst (λ (x : List Step). AreOpen x c (record { first = l; second = beside; start = start })) (sym (oldest-oldest d count steps (omega (arith, less, first.from))))
     (record {
       apart = λ e. other (sym e);
       first = j.learned.stands;

@@ -20,12 +20,12 @@ use Rattle.cdcl_core.specs.Answers.{IsLogged, IsReady, IsWatching, left}
 -- what is known where a clause was learned, and the steps from the decision of this index on were taken back
 pub record HasLearned (old new : Search) (c : List Literal) (hints : List ℕ) (index : ℕ) : Type 0 where
   pub variables : new.trail.variables ≡ old.trail.variables
-  pub clauses : new.clauses.items ≡ old.clauses.items ++ c ∷ []
+  pub clauses : new.clauses ≡ old.clauses ++ c ∷ []
   pub log : new.log ≡ old.log ++ Added c hints ∷ []
   pub analysis : new.analysis ≡ old.analysis
   pub decisions : new.decisions.items ≡ take index old.decisions.items
   pub places : decision_places new.trail.steps ≡ take index old.decisions.items
-  pub held : IsHeld new.clauses.items new.trail new.watches
+  pub held : IsHeld new.clauses new.trail new.watches
 
 -- the decisions that are left where the steps from one of them on are taken back
 pub places_left :
@@ -42,10 +42,10 @@ places_following s older follows = ap (λ b. if b then decision_places older ++ 
 
 pub IsReady-learned :
     (form : Form) (n : ℕ) (old new : Search) (c : List Literal) (l : Literal) (hints : List ℕ) (index : ℕ) → HasLearned old new c hints index →
-    IsLearned old.trail.variables old.clauses.items old.trail.steps c l hints → length old.log < n → IsReady form n old → IsReady form n new
+    IsLearned old.trail.variables old.clauses old.trail.steps c l hints → length old.log < n → IsReady form n old → IsReady form n new
 IsReady-learned form n old new c l hints index has learned room ready =
-    let logged : IsLogged form n (old.clauses.items ++ c ∷ []) (old.log ++ Added c hints ∷ []) =
-    IsLogged-added form n old.clauses.items old.log c hints ready.logged
+    let logged : IsLogged form n (old.clauses ++ c ∷ []) (old.log ++ Added c hints ∷ []) =
+    IsLogged-added form n old.clauses old.log c hints ready.logged
     (learned.unit form.clauses old.log (sym ready.logged.numbered) ready.logged.live) (subst (λ k. IsWithin k c) ready.variables learned.within) room in
     record {
       kept = record {
@@ -54,7 +54,7 @@ IsReady-learned form n old new c l hints index has learned room ready =
         places = has.decisions ∙ sym has.places;
       };
       variables = has.variables ∙ ready.variables;
-      logged = subst (λ x. IsLogged form n x new.log) (sym has.clauses) (subst (IsLogged form n (old.clauses.items ++ c ∷ [])) (sym has.log) logged);
+      logged = subst (λ x. IsLogged form n x new.log) (sym has.clauses) (subst (IsLogged form n (old.clauses ++ c ∷ [])) (sym has.log) logged);
     }
 
 one_unit : (a b v x y : ℕ) → a ≡ suc b → x ≤ v → b * suc v + x < a * suc v + y
@@ -76,7 +76,7 @@ left-learned n old new c hints index has room =
 -- what is propagated where the steps from a decision on were taken back, and one more follows
 pub IsWatching-asserted :
     (new : Search) (count : ℕ) (s : Step) (steps : List Step) → Contains (decision_places steps) count → new.trail.steps ≡ s ∷ oldest count steps → new.propagated ≡ count →
-    AreWatched (oldest count steps) new.trail.steps new.clauses.items new.watches.pairs.items → IsWatching new
+    AreWatched (oldest count steps) new.trail.steps new.clauses new.watches.pairs.items → IsWatching new
 IsWatching-asserted new count s steps stands are propagated watched =
     let below : count < length steps = place-decided steps count stands in
     let exact : length (oldest count steps) ≡ count = length-oldest_all count steps (omega (arith, below)) in
@@ -88,20 +88,20 @@ IsWatching-asserted new count s steps stands are propagated watched =
     ∙ oldest-all count (oldest count steps) (omega (arith, exact)) in
     record {
       most = omega (arith, propagated, longer, exact);
-      watched = subst (λ (x : List Step). AreWatched x new.trail.steps new.clauses.items new.watches.pairs.items) (sym same) watched;
+      watched = subst (λ (x : List Step). AreWatched x new.trail.steps new.clauses new.watches.pairs.items) (sym same) watched;
     }
 
 -- what is propagated where the steps from a decision on were taken back
 pub IsWatching-cut :
     (new : Search) (count : ℕ) (steps : List Step) → Contains (decision_places steps) count → new.trail.steps ≡ oldest count steps → new.propagated ≡ count →
-    AreWatched new.trail.steps new.trail.steps new.clauses.items new.watches.pairs.items → IsWatching new
+    AreWatched new.trail.steps new.trail.steps new.clauses new.watches.pairs.items → IsWatching new
 IsWatching-cut new count steps stands are propagated watched =
     let below : count < length steps = place-decided steps count stands in
     let exact : length new.trail.steps ≡ count = ap length are ∙ length-oldest_all count steps (omega (arith, below)) in
     let same : oldest new.propagated new.trail.steps ≡ new.trail.steps = oldest-all new.propagated new.trail.steps (omega (arith, exact, propagated)) in
     record {
       most = omega (arith, propagated, exact);
-      watched = subst (λ (x : List Step). AreWatched x new.trail.steps new.clauses.items new.watches.pairs.items) (sym same) watched;
+      watched = subst (λ (x : List Step). AreWatched x new.trail.steps new.clauses new.watches.pairs.items) (sym same) watched;
     }
 
 -- the first decision
@@ -115,9 +115,9 @@ none_before steps ns d are some at =
     omega (arith, none.1, length-take-le 0 ns (omega arith))
 
 -- before the first decision the two watched literals are open, where the clause leaves one only later
-pub open_first : (n : ℕ) (cs : List (List Literal)) (steps : List Step) (places : List ℕ) (c : List Literal) (l : Literal) (hints : List ℕ) (beside : Literal) (kept index : ℕ) →
-    IsJump n cs steps places c l hints beside kept → IsFirstFrom places kept index → 0 < index → AreOpen (oldest (get_or places 0 0) steps) c (record { first = l; second = beside })
-open_first n cs steps places c l hints beside kept index j first later =
+pub open_first : (n : ℕ) (cs : List (List Literal)) (steps : List Step) (places : List ℕ) (c : List Literal) (l : Literal) (hints : List ℕ) (beside : Literal) (kept index start : ℕ) →
+    IsJump n cs steps places c l hints beside kept → IsFirstFrom places kept index → 0 < index → AreOpen (oldest (get_or places 0 0) steps) c (record { first = l; second = beside; start = start })
+open_first n cs steps places c l hints beside kept index start j first later =
     let d : ℕ = get_or places 0 0 in
     let count : ℕ = get_or places index 0 in
     let room : index ≤ length places = omega (arith, first.within) in
@@ -126,5 +126,5 @@ open_first n cs steps places c l hints beside kept index j first later =
     let front : Contains (take index places) d = (0, omega (arith, long, later), read) in
     let stands : Contains (decision_places (oldest count steps)) d = subst (λ (x : List ℕ). Contains x d) (sym (places_left steps places index j.places_are first.within)) front in
     let less : d < kept = first.before 0 later in
-    subst (λ (x : List Step). AreOpen x c (record { first = l; second = beside })) (oldest-oldest d count steps (omega (arith, less, first.from)))
-    (jump_quiet n cs steps places c l hints beside kept index j first d stands)
+    subst (λ (x : List Step). AreOpen x c (record { first = l; second = beside; start = start })) (oldest-oldest d count steps (omega (arith, less, first.from)))
+    (jump_quiet n cs steps places c l hints beside kept index start j first d stands)

@@ -2,13 +2,17 @@ pub mod Courses
 pub mod Reading
 pub mod Listing
 pub mod Places
+pub mod Storing
 pub mod Listed
 pub mod Watching
 pub mod Going
 pub mod Looking
 pub mod Blocking
 pub mod Settling
+pub mod Histories
+pub mod Sparing
 pub mod Logging
+pub mod Ongoing
 pub mod Jumping
 pub mod Entering
 pub mod Learning

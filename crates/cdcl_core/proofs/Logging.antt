@@ -1,54 +1,26 @@
 -- Logs that have only units, and what they come to.
-use Rattle.std.proofs.Common.{◌≡◌, ℕ, suc, ◌+◌, ◌<◌, ◌≤◌, ◌⊎◌, inl, inr, List, [], ◌∷◌, ◌++◌, length, refl, sym, ap, ◌∙◌, subst, arith}
+use Rattle.std.proofs.Common.{◌≡◌, ℕ, suc, ◌+◌, ◌<◌, ◌≤◌, List, [], ◌∷◌, ◌++◌, length, refl, sym, ap, ◌∙◌, subst, arith}
 use Rattle.std.specs.Prelude.{count_by, cond}
 use Rattle.std.proofs.lemmas.List.{length-append}
 use Rattle.std.proofs.lemmas.List.Sums.{sum_by-append, count_by-le-length}
 use Rattle.sat_form.specs.Satisfaction.{Literal, Form, IsWithin}
 use Rattle.sat_form.specs.Propagation.{Conflicts, Follows}
 use Rattle.sat_form.specs.Databases.{added_clauses, deleted_numbers, numbered_clauses, clauses_without, database, IsEntryWithin, AreEntriesWithin}
-use Rattle.sat_form.specs.Refutation.{IsJustified, IsDerivation, IsRefutation}
-use Rattle.sat_form.specs.Budget.{IsUnit, IsAllowed, AreAllowed, EndsAdding, IsSpent}
+use Rattle.sat_form.specs.Refutation.{IsRefutation}
+use Rattle.sat_form.specs.Budget.{IsUnit, EndsAdding, IsSpent}
 use Rattle.sat_form.specs.declared.logs.Entry.{Entry}
 use Rattle.sat_form.specs.declared.logs.Entry.TheVariants.{Added, Deleted}
 use Rattle.sat_form.proofs.Databases.{added_clauses-append}
 use Rattle.sat_form.proofs.Refutations.{numbered_clauses-added}
 use Rattle.sat_form.proofs.Chains.{IsDerivation-allowed}
+use Rattle.cdcl_core.proofs.Histories.{AreAllowed-added, IsDerivation-added}
 use Rattle.cdcl_core.specs.Answers.{has_literal, unit_count, EndsAllowed, IsLogged}
-
--- a place in a list with one more element is an old one or the last
-split_last :
-    {X : Type 0} → (xs : List X) (x : X) (front : List X) (y : X) (back : List X) → xs ++ x ∷ [] ≡ front ++ y ∷ back →
-    ((rest : List X) × (xs ≡ front ++ y ∷ rest)) ⊎ ((front ≡ xs) × (y ≡ x))
-split_last [] x [] y back is = let same : x ≡ y = cc in inr (refl, sym same)
-split_last [] x (z ∷ zs) y back is = absurd (omega (arith, ap length is, length-append zs (y ∷ back)))
-split_last (w ∷ ws) x [] y back is = let same : w ≡ y = cc in inl (ws, λ k. same k ∷ ws)
-split_last (w ∷ ws) x (z ∷ zs) y back is =
-    let same : w ≡ z = cc in
-    let rest : ws ++ x ∷ [] ≡ zs ++ y ∷ back = cc in
-    elim (split_last ws x zs y back rest) [
-      | inl old ↦ inl (old.0, λ k. same k ∷ old.1 k)
-      | inr new ↦ inr ((λ k. (sym same) k ∷ new.0 k), new.1)
-    ]
-
-pub AreAllowed-added : (form : List (List Literal)) (log : List Entry) (e : Entry) → AreAllowed form log → IsAllowed form log e → AreAllowed form (log ++ e ∷ [])
-AreAllowed-added form log e allowed here = λ before f after is.
-    elim (split_last log e before f after is) [
-      | inl old ↦ allowed before f old.0 old.1
-      | inr new ↦ subst (λ (x : List Entry). IsAllowed form x f) (sym new.0) (subst (IsAllowed form log) (sym new.1) here)
-    ]
-
-IsDerivation-added : (form : List (List Literal)) (log : List Entry) (e : Entry) → IsDerivation form log → IsJustified form log e → IsDerivation form (log ++ e ∷ [])
-IsDerivation-added form log e derives here = λ before f after is.
-    elim (split_last log e before f after is) [
-      | inl old ↦ derives before f old.0 old.1
-      | inr new ↦ subst (λ (x : List Entry). IsJustified form x f) (sym new.0) (subst (IsJustified form log) (sym new.1) here)
-    ]
 
 all_added : (n : ℕ) (log : List Entry) (e : Entry) → AreEntriesWithin n log → IsEntryWithin n e → AreEntriesWithin n (log ++ e ∷ [])
 all_added n [] e all here = (here, tt)
 all_added n (f ∷ fs) e all here = (all.0, all_added n fs e all.1 here)
 
-deleted_numbers-added : (log : List Entry) (c : List Literal) (hints : List ℕ) → deleted_numbers (log ++ Added c hints ∷ []) ≡ deleted_numbers log
+pub deleted_numbers-added : (log : List Entry) (c : List Literal) (hints : List ℕ) → deleted_numbers (log ++ Added c hints ∷ []) ≡ deleted_numbers log
 deleted_numbers-added [] c hints = refl
 deleted_numbers-added (Added d gs ∷ es) c hints = deleted_numbers-added es c hints
 deleted_numbers-added (Deleted n ∷ es) c hints = ap (λ ns. n ∷ ns) (deleted_numbers-added es c hints)

@@ -38,7 +38,7 @@ pub IsAnswer-sat :
     ((v : ℕ) (b : Bool) → v < s.trail.variables → known_value s.trail.steps v ≡ Some b → assignment_of values v ≡ b) →
     (length values ≡ form.variables) × Satisfies (assignment_of values) form.clauses
 IsAnswer-sat form n s values ready done full long given =
-    let cs : List (List Literal) = s.clauses.items in
+    let cs : List (List Literal) = s.clauses in
     let a : ℕ → Bool = assignment_of values in
     let holds : (c : List Literal) (l : Literal) → Contains cs c → Contains c l → known_truth s.trail.steps l ≡ Some true → clause_value a c ≡ true =
     λ c l at stands told.

@@ -60,6 +60,9 @@ slice_get-set_other (y ∷ ys) zero (suc j) x other = refl
 slice_get-set_other (y ∷ ys) (suc i) zero x other = refl
 slice_get-set_other (y ∷ ys) (suc i) (suc j) x other = slice_get-set_other ys i j x (λ e. other (ap suc e))
 
+pub read_at : {X : Type 0} → (xs : List X) (k : ℕ) (x : X) → slice_get xs k ≡ Some x → x ≡ get_or xs k x
+read_at xs k x found = sym (get_or_from_slice_get xs k x x found)
+
 -- a list without the element at a place
 pub length-swap_remove : {X : Type 0} → (xs : List X) (at : ℕ) (d : X) → at < length xs → length (swap_remove xs at d) + 1 ≡ length xs
 length-swap_remove xs at d within =

@@ -121,6 +121,17 @@ pub known_truth-now :
 known_truth-now t x l v m o marked is within same read found =
     sym (ap (option_map (λ b. if l.negated then not b else b)) (known_value-told t x l.variable m o marked is within (read ∙ ap (λ w. get_or t.marks.items w m) same) found))
 
+-- the truth that a value tells
+pub known_truth-here :
+    (t : Inside) (x : Course) (l : Literal) (v : ℕ) (m o : Option Bool) → IsMarked t → course_of t ≡ x → l.variable < x.variables → v ≡ l.variable →
+    m ≡ get_or t.values.items v m → m ≡ o →
+    option_map (λ b. if l.negated then not b else b) o ≡ known_truth x.steps l
+known_truth-here t x l v m o marked is within same read found =
+    let inside : l.variable < length t.marks.items = subst (λ n. l.variable < n) (sym (ap (λ (y : Course). y.variables) is)) within in
+    let beside : l.variable < length t.values.items = subst (λ n. l.variable < n) (sym marked.count) inside in
+    ap (option_map (λ b. if l.negated then not b else b))
+    (sym found ∙ read ∙ ap (λ w. get_or t.values.items w m) same ∙ get_or_default t.values.items l.variable m None beside ∙ marked.values l.variable inside ∙ ap (λ (y : Course). known_value y.steps l.variable) is)
+
 pub some_truth : (value n negated : Bool) → n ≡ negated → not (beq value n) ≡ (if negated then not value else value)
 some_truth value n negated same = ap (λ b. not (beq value b)) same ∙ same_truth value negated
 

@@ -41,7 +41,7 @@ at_rest_open steps c p open_ =
 pub IsSettled-watched : (cs : List (List Literal)) (pairs : List Pair) (steps : List Step) → length pairs ≡ length cs → AreWatched steps steps cs pairs → IsSettled cs steps
 IsSettled-watched cs pairs steps count watched = λ c at.
     let l : Literal = record { variable = 0; negated = false } in
-    let d : Pair = record { first = l; second = l } in
+    let d : Pair = record { first = l; second = l; start = 0 } in
     let p : Pair = get_or pairs at.0 d in
     let found : slice_get cs at.0 ≡ Some c = slice_get-at cs at.0 c at.1 at.2 in
     elim (watched at.0 c p found (slice_get-get_or pairs at.0 d (omega (arith, at.1)))) [

@@ -27,7 +27,7 @@ nothing_held n cs s trail within listed =
     subst (λ (x : Course). IsHeld cs x s.watches) (sym trail) at_start
 
 pub IsReady-new :
-    (form : Form) (budget : ℕ) (s : Search) → s.trail ≡ record { variables = form.variables; steps = [] } → s.clauses.items ≡ form.clauses → AreWithin form.variables form.clauses →
+    (form : Form) (budget : ℕ) (s : Search) → s.trail ≡ record { variables = form.variables; steps = [] } → s.clauses ≡ form.clauses → AreWithin form.variables form.clauses →
     AreListed form.variables form.clauses s.watches.pairs.items s.watches.lists → IsClear form.variables s.analysis → s.decisions.items ≡ [] → s.log ≡ [] → IsReady form budget s
 IsReady-new form budget s trail clauses within listed clear decisions log =
     let variables : s.trail.variables ≡ form.variables = ap (λ (x : Course). x.variables) trail in
@@ -53,18 +53,18 @@ pub record IsDecided (old : Search) (t : Course) (d : Vec ℕ Global) (s : Step)
   pub decisions : d.items ≡ old.decisions.items ++ length old.trail.steps ∷ []
   pub propagated : IsPropagated old
 
-held_decided : (old : Search) (t : Course) (d : Vec ℕ Global) (s : Step) → IsDecided old t d s → IsHeld old.clauses.items old.trail old.watches → IsHeld old.clauses.items t old.watches
+held_decided : (old : Search) (t : Course) (d : Vec ℕ Global) (s : Step) → IsDecided old t d s → IsHeld old.clauses old.trail old.watches → IsHeld old.clauses t old.watches
 held_decided old t d s is held =
     let longer : Course = record { variables = old.trail.variables; steps = s ∷ old.trail.steps } in
-    let at_longer : IsHeld old.clauses.items longer old.watches =
+    let at_longer : IsHeld old.clauses longer old.watches =
     record {
       within = held.within;
       fresh = (is.within, is.open_, held.fresh);
       justified = (λ follows. let both : true ≡ false = sym is.decides ∙ follows in cc, held.justified);
       listed = held.listed;
-      quiet = AreQuiet-decided old.clauses.items old.watches.pairs.items s old.trail.steps is.decides held.quiet is.propagated.watched;
+      quiet = AreQuiet-decided old.clauses old.watches.pairs.items s old.trail.steps is.decides held.quiet is.propagated.watched;
     } in
-    subst (λ (x : Course). IsHeld old.clauses.items x old.watches) (sym is.trail) at_longer
+    subst (λ (x : Course). IsHeld old.clauses x old.watches) (sym is.trail) at_longer
 
 pub IsReady-decided : (form : Form) (n : ℕ) (old : Search) (t : Course) (d : Vec ℕ Global) (s : Step) → IsDecided old t d s → IsReady form n old → IsReady form n (record old { trail = t; decisions = d })
 IsReady-decided form n old t d s is ready =
@@ -91,9 +91,9 @@ IsWatching-decided old t d s is =
     ∙ oldest-all old.propagated old.trail.steps (omega (arith, is.propagated.all)) in
     record {
       most = omega (arith, ap length steps, is.propagated.all);
-      watched = subst (λ (x : List Step). AreWatched x t.steps old.clauses.items old.watches.pairs.items) (sym same)
-          (subst (λ (x : List Step). AreWatched old.trail.steps x old.clauses.items old.watches.pairs.items) (sym steps)
-          (AreWatched-push old.clauses.items old.watches.pairs.items s old.trail.steps is.open_ is.propagated.watched));
+      watched = subst (λ (x : List Step). AreWatched x t.steps old.clauses old.watches.pairs.items) (sym same)
+          (subst (λ (x : List Step). AreWatched old.trail.steps x old.clauses old.watches.pairs.items) (sym steps)
+          (AreWatched-push old.clauses old.watches.pairs.items s old.trail.steps is.open_ is.propagated.watched));
     }
 
 one_more : (a v k : ℕ) → k < v → a + (v - suc k) < a + (v - k)
@@ -105,7 +105,7 @@ left-decided n old t d s is =
     (one_more ((n - length old.log) * suc old.trail.variables) old.trail.variables (length old.trail.steps) is.room)
 
 -- a search that has taken steps that follow
-pub IsReady-begun : (form : Form) (n : ℕ) (old new : Search) → new ≡ record old { trail = new.trail } → IsHeld old.clauses.items new.trail old.watches → GoesOn old.trail new.trail → IsReady form n old → IsReady form n new
+pub IsReady-begun : (form : Form) (n : ℕ) (old new : Search) → new ≡ record old { trail = new.trail } → IsHeld old.clauses new.trail old.watches → GoesOn old.trail new.trail → IsReady form n old → IsReady form n new
 IsReady-begun form n old new is held on ready =
     subst (IsReady form n) (sym is)
     (record {
@@ -114,12 +114,12 @@ IsReady-begun form n old new is held on ready =
       logged = ready.logged;
     })
 
-pub IsKept-gone_on : (old new : Search) → new ≡ record old { trail = new.trail; watches = new.watches; propagated = new.propagated } → IsHeld old.clauses.items new.trail new.watches → GoesOn old.trail new.trail → IsKept old → IsKept new
+pub IsKept-gone_on : (old new : Search) → new ≡ record old { trail = new.trail; watches = new.watches; propagated = new.propagated } → IsHeld old.clauses new.trail new.watches → GoesOn old.trail new.trail → IsKept old → IsKept new
 IsKept-gone_on old new is held on kept =
     subst IsKept (sym is) (record { held = held; clear = subst (λ k. IsClear k old.analysis) (sym on.variables) kept.clear; places = kept.places ∙ sym on.places })
 
 pub IsReady-gone_on :
-    (form : Form) (n : ℕ) (old new : Search) → new ≡ record old { trail = new.trail; watches = new.watches; propagated = new.propagated } → IsHeld old.clauses.items new.trail new.watches →
+    (form : Form) (n : ℕ) (old new : Search) → new ≡ record old { trail = new.trail; watches = new.watches; propagated = new.propagated } → IsHeld old.clauses new.trail new.watches →
     GoesOn old.trail new.trail → IsReady form n old → IsReady form n new
 IsReady-gone_on form n old new is held on ready =
     subst (IsReady form n) (sym is)

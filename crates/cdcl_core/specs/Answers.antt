@@ -52,7 +52,7 @@ pub record IsLogged (form : Form) (n : ℕ) (clauses : List (List Literal)) (log
 
 -- what a search keeps
 pub record IsKept (s : Search) : Type 0 where
-  pub held : IsHeld s.clauses.items s.trail s.watches
+  pub held : IsHeld s.clauses s.trail s.watches
   pub clear : IsClear s.trail.variables s.analysis
   pub places : s.decisions.items ≡ decision_places s.trail.steps
 
@@ -60,21 +60,21 @@ pub record IsKept (s : Search) : Type 0 where
 pub record IsReady (form : Form) (n : ℕ) (s : Search) : Type 0 where
   pub kept : IsKept s
   pub variables : s.trail.variables ≡ form.variables
-  pub logged : IsLogged form n s.clauses.items s.log
+  pub logged : IsLogged form n s.clauses s.log
 
 -- the clause of this number is false
 abbrev pub IsConflict : Search → ℕ → Type 0
-IsConflict s number = IsSomeAnd (slice_get s.clauses.items number) (AreFalse s.trail.steps)
+IsConflict s number = IsSomeAnd (slice_get s.clauses number) (AreFalse s.trail.steps)
 
 -- each clause is watched, as far as the steps were propagated
 pub record IsWatching (s : Search) : Type 0 where
   pub most : s.propagated ≤ length s.trail.steps
-  pub watched : AreWatched (oldest s.propagated s.trail.steps) s.trail.steps s.clauses.items s.watches.pairs.items
+  pub watched : AreWatched (oldest s.propagated s.trail.steps) s.trail.steps s.clauses s.watches.pairs.items
 
 -- each step was propagated, and each clause is watched
 pub record IsPropagated (s : Search) : Type 0 where
   pub all : s.propagated ≡ length s.trail.steps
-  pub watched : AreWatched s.trail.steps s.trail.steps s.clauses.items s.watches.pairs.items
+  pub watched : AreWatched s.trail.steps s.trail.steps s.clauses s.watches.pairs.items
 
 -- a conflict, or none as far as the steps were propagated
 abbrev pub IsAt : Search → Option ℕ → Type 0
@@ -97,7 +97,13 @@ pub record IsTarget (steps : List Step) (places : List ℕ) (clause : List Liter
   pub newest : IsNewest steps clause p.first p.second kept
   pub first : IsFirstFrom places kept index
 
+-- the log of the answer, if it has one, deletes nothing
+abbrev pub AddsOnly : Answer → Type 0
+AddsOnly (Sat model) = Unit {0}
+AddsOnly (Unsat log) = deleted_numbers log ≡ []
+AddsOnly (Spent log) = deleted_numbers log ≡ []
+
 -- a search has come to an answer, or less of it is left
 abbrev pub HasAdvanced : Form → ℕ → Search → Search → Option Answer → Type 0
-HasAdvanced form n old new (Some answer) = IsAnswer form n answer
+HasAdvanced form n old new (Some answer) = IsAnswer form n answer × AddsOnly answer
 HasAdvanced form n old new None = IsReady form n new × IsWatching new × (left n new < left n old)

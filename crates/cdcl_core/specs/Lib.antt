@@ -4,8 +4,12 @@ pub mod Settled
 pub mod Learning
 pub mod Cuts
 pub mod Lists
+pub mod Stores
 pub mod Watched
 pub mod Readings
 pub mod Going
 pub mod Jumps
+pub mod Spare
+pub mod Histories
 pub mod Answers
+pub mod SegmentEnds

@@ -7,6 +7,7 @@ ghost use Rattle.cdcl_core.specs.Settled.{AreFalse, IsReason, AreJustified, AreS
 ghost use Rattle.cdcl_core.specs.Learning.{IsClear, IsLesson, AreTouched};
 ghost use Rattle.cdcl_core.specs.Cuts.{AreEnds, IsClauseOf, IsCut, IsOn, IsOnAt, IsReached, MarksClause, Reaches, TakesMarks};
 
+use crate::clauses::Clauses;
 use crate::trail::{Step, Trail};
 use sat_form::{Clause, Hints, Lit};
 use std::alloc::{AllocError, Global};
@@ -69,7 +70,7 @@ impl Analysis {
         &mut self,
         alloc: Global,
         trail: &Trail,
-        clauses: &[Clause],
+        clauses: &Clauses,
         conflict: usize,
         decisions: &[usize],
     ) -> Result<Lesson, AllocError>
@@ -88,7 +89,7 @@ impl Analysis {
         self.begin(first, newest, count);
         let mut numbers = Vec::new(alloc);
         numbers.push(conflict)?;
-        self.mark_clause(trail, &clauses[conflict], count)?;
+        self.mark_clause(trail, clauses.at(conflict), count)?;
         self.resolve_newest(trail, clauses, &mut numbers)?;
         self.minimise(alloc, trail, clauses, &mut numbers)?;
         self.resolve_first(trail, clauses, &mut numbers)?;
@@ -187,7 +188,7 @@ impl Analysis {
     fn replace(
         &mut self,
         trail: &Trail,
-        clauses: &[Clause],
+        clauses: &Clauses,
         numbers: &mut Vec<usize>,
         place: usize,
         step: Step,
@@ -211,7 +212,7 @@ impl Analysis {
     {
         self.marked[step.literal.variable() as usize] = false;
         numbers.push(reason)?;
-        self.mark_clause(trail, &clauses[reason], place)?;
+        self.mark_clause(trail, clauses.at(reason), place)?;
         Ok(())
     }
 
@@ -219,7 +220,7 @@ impl Analysis {
     fn resolve(
         &mut self,
         trail: &Trail,
-        clauses: &[Clause],
+        clauses: &Clauses,
         numbers: &mut Vec<usize>,
         place: usize,
     ) -> Result<(), AllocError>
@@ -252,7 +253,7 @@ impl Analysis {
     fn resolve_newest(
         &mut self,
         trail: &Trail,
-        clauses: &[Clause],
+        clauses: &Clauses,
         numbers: &mut Vec<usize>,
     ) -> Result<(), AllocError>
         requires within { AreWithin trail.now.variables clauses.now }
@@ -281,7 +282,7 @@ impl Analysis {
         &mut self,
         alloc: Global,
         trail: &Trail,
-        clauses: &[Clause],
+        clauses: &Clauses,
         numbers: &mut Vec<usize>,
     ) -> Result<(), AllocError>
         requires within { AreWithin trail.now.variables clauses.now }
@@ -337,7 +338,7 @@ impl Analysis {
     fn leave_out(
         &mut self,
         trail: &Trail,
-        clauses: &[Clause],
+        clauses: &Clauses,
         numbers: &mut Vec<usize>,
         place: usize,
     ) -> Result<(), AllocError>
@@ -366,11 +367,11 @@ impl Analysis {
     }
 
     /// Whether the other literals of a literal's reason are marked or of level 0.
-    fn is_implied(&self, trail: &Trail, clauses: &[Clause], reason: usize, literal: Lit) -> bool {
-        let Some(clause) = clauses.get(reason) else {
+    fn is_implied(&self, trail: &Trail, clauses: &Clauses, reason: usize, literal: Lit) -> bool {
+        if clauses.len() <= reason {
             return false;
-        };
-        for other in clause.literals() {
+        }
+        for other in clauses.at(reason).literals() {
             if *other != literal && !self.is_kept(trail, other.variable() as usize) {
                 return false;
             }
@@ -397,7 +398,7 @@ impl Analysis {
     fn resolve_first(
         &mut self,
         trail: &Trail,
-        clauses: &[Clause],
+        clauses: &Clauses,
         numbers: &mut Vec<usize>,
     ) -> Result<(), AllocError>
         requires within { AreWithin trail.now.variables clauses.now }

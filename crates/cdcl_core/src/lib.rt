@@ -4,17 +4,21 @@
 
 mod analysis;
 mod averages;
+mod clauses;
 mod lists;
 mod order;
 mod propagation;
 mod search;
+mod segments;
 mod trail;
 mod watches;
 
 pub use analysis::{Analysis, Lesson};
 pub use averages::Averages;
+pub use clauses::Clauses;
 pub use lists::{Lists, Watch};
 pub use order::Order;
-pub use search::{Answer, solve, solve_by};
+pub use search::Answer;
+pub use segments::{solve, solve_by};
 pub use trail::{Mark, Step, Trail};
 pub use watches::{Pair, Watches};

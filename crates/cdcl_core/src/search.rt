@@ -1,7 +1,7 @@
 //! The search: propagation, decisions, and what is learned from conflicts.
 
-ghost use Rattle.std.specs.Prelude.{◌≡◌, ◌≢◌, ℕ, ◌^◌, ◌<◌, ◌≤◌, false, [], ◌∷◌, ◌++◌, length, take, IsTrue, IsFalse, IsSome, IfOk, OnOk, IfNone, IfSome, Some, None, Contains, List, slice_get, slice_index};
-ghost use Rattle.sat_form.specs.Satisfaction.{Form, Literal, IsWithin};
+ghost use Rattle.std.specs.Prelude.{◌≡◌, ◌≢◌, ℕ, ◌^◌, ◌<◌, ◌≤◌, false, [], ◌∷◌, ◌++◌, length, take, IsTrue, IsFalse, IsSome, IfOk, OnOk, IfNone, IfSome, Some, None, Contains, List, slice_get, slice_index, slice_index_or};
+ghost use Rattle.sat_form.specs.Satisfaction.{Form, Literal, IsWithin, AreWithin};
 ghost use Rattle.cdcl_core.specs.Steps.{known_value, known_truth, oldest, decision_places};
 ghost use Rattle.cdcl_core.specs.Settled.{AreFalse};
 ghost use Rattle.cdcl_core.specs.Learning.{IsLearned};
@@ -9,13 +9,14 @@ ghost use Rattle.cdcl_core.specs.Watched.{AreFalseBeside, HasTrue, AreOpen, IsWa
 ghost use Rattle.cdcl_core.specs.Going.{GoesOn};
 ghost use Rattle.cdcl_core.specs.Answers.{IsAnswer, IsKept, IsReady, IsConflict, IsWatching, IsPropagated, IsAt, IsDone, IsTarget, HasAdvanced, left};
 ghost use Rattle.cdcl_core.specs.Jumps.{IsNewest, IsFirstFrom};
+ghost use Rattle.cdcl_core.specs.Spare.{AreSpare, AreSatisfied, AreOffBelow, AreReasonsOff};
 
 use crate::analysis::{Analysis, Lesson};
-use crate::averages::Averages;
+use crate::clauses::Clauses;
 use crate::order::Order;
 use crate::trail::Trail;
 use crate::watches::{Pair, Watches};
-use sat_form::{Assignment, Clause, Cnf, Hints, Lit, Log};
+use sat_form::{Assignment, Clause, Hints, Lit, Log};
 use std::alloc::{AllocError, Global};
 use std::mem::replace;
 
@@ -32,10 +33,10 @@ pub enum Answer {
 
 /// A search for a model.
 #[derive(Drop)]
-struct Search {
+pub(crate) struct Search {
     trail: Trail,
     /// The form's clauses, and then those that were learned, by their numbers.
-    clauses: Vec<Clause>,
+    clauses: Clauses,
     watches: Watches,
     analysis: Analysis,
     /// The places of the decisions among the steps.
@@ -49,17 +50,20 @@ struct Search {
 impl Search {
     ghost use Rattle.cdcl_core.specs.declared.watches.Pair.{Pair};
 
-    fn new(alloc: Global, cnf: &Cnf) -> Result<Self, AllocError>
-        ensures ready { IfOk result (λ s. (budget : ℕ) → IsReady cnf.now budget s) }
-        ensures single { IfOk result (λ s. AreSingle s.clauses.items s.watches.pairs.items) }
+    /// A search for a model of these clauses.
+    pub(crate) fn over(alloc: Global, variables: u32, clauses: Clauses) -> Result<Self, AllocError>
+        requires small { variables ≤ 2 ^ 31 }
+        requires within { AreWithin variables clauses }
+        ensures ready { IfOk result (λ s. (budget : ℕ) → IsReady (record { variables = variables; clauses = clauses }) budget s) }
+        ensures single { IfOk result (λ s. AreSingle s.clauses s.watches.pairs.items) }
         ensures propagated { IfOk result (λ s. s.propagated ≡ 0) }
         ensures start { IfOk result (λ s. s.trail.steps ≡ []) }
     {
-        let variables = cnf.variables();
+        let watches = Watches::new(alloc, variables, &clauses)?;
         Ok(Search {
             trail: Trail::new(alloc, variables)?,
-            clauses: copied(alloc, cnf.clauses())?,
-            watches: Watches::new(alloc, variables, cnf.clauses())?,
+            clauses,
+            watches,
             analysis: Analysis::new(alloc, variables)?,
             decisions: Vec::new(alloc),
             propagated: 0,
@@ -67,14 +71,84 @@ impl Search {
         })
     }
 
+    /// Whether a segment may end here: no decision stands, and the log has as many units as `due`, and fewer than the budget.
+    pub(crate) fn may_pause(&self, due: usize, budget: u64) -> bool
+        ensures { IsTrue result → (length self.now.decisions.items ≡ 0) × (0 < length self.now.log) × (length self.now.log < budget) }
+    {
+        let count = self.log.entries().len();
+        self.decisions.is_empty() && 0 < count && due <= count && (count as u64) < budget
+    }
+
+    /// Whether the steps make a literal of the clause true.
+    fn has_true(&self, clause: &Clause) -> bool
+        ensures { IsTrue result → HasTrue self.now.trail.steps clause.now }
+    {
+        for literal in clause.literals() {
+            if self.trail.is_true(*literal) {
+                return true;
+            }
+        }
+        false
+    }
+
+    /// Which clauses, behind the first ones, have a true literal.
+    fn satisfied(&self, alloc: Global, first: usize) -> Result<Vec<bool>, AllocError>
+        ensures count { IfOk result (λ marks. length marks.items ≡ length self.now.clauses) }
+        ensures true_ { IfOk result (λ marks. AreSatisfied self.now.trail.steps self.now.clauses marks.items) }
+        ensures stay { IfOk result (λ marks. AreOffBelow first marks.items) }
+    {
+        let mut marks = Vec::with_capacity(alloc, self.clauses.len())?;
+        for number in 0..self.clauses.len() {
+            marks.push(first <= number && self.has_true(self.clauses.at(number)))?;
+        }
+        Ok(marks)
+    }
+
+    /// Takes the mark of each clause away that is the reason of a step.
+    fn keep_reasons(&self, marks: &mut Vec<bool>)
+        ensures count { length marks.new.items ≡ length marks.old.items }
+        ensures reasons { AreReasonsOff marks.new.items self.now.trail.steps }
+        ensures off { (k : ℕ) → slice_index_or marks.old.items k false ≡ false → slice_index_or marks.new.items k false ≡ false }
+    {
+        for place in 0..self.trail.len() {
+            if let Some(step) = self.trail.step_at(place) {
+                take_mark(marks, step.reason);
+            }
+        }
+    }
+
+    /// Which clauses, behind the first ones, have a literal that propagation from the others gives, where no decision stands.
+    pub(crate) fn spare(&self, alloc: Global, first: usize) -> Result<Vec<bool>, AllocError>
+        requires held { IsHeld self.now.clauses self.now.trail self.now.watches }
+        requires start { decision_places self.now.trail.steps ≡ [] }
+        ensures count { IfOk result (λ marks. length marks.items ≡ length self.now.clauses) }
+        ensures spare { IfOk result (λ marks. AreSpare self.now.clauses marks.items) }
+        ensures stay { IfOk result (λ marks. AreOffBelow first marks.items) }
+    {
+        let mut marks = self.satisfied(alloc, first)?;
+        self.keep_reasons(&mut marks);
+        Ok(marks)
+    }
+
+    /// The clauses of a search that ends here, and its log.
+    pub(crate) fn take_parts(&mut self, alloc: Global) -> (Clauses, Log)
+        ensures clauses { result.0 ≡ self.old.clauses }
+        ensures log { result.1 ≡ self.old.log }
+    {
+        (
+            replace(&mut self.clauses, Clauses::new(Vec::new(alloc))),
+            replace(&mut self.log, Log::new(alloc)),
+        )
+    }
+
     /// Takes the literal of each clause that has only one, and gives the number of a clause whose
     /// literals are all false.
-    fn begin(&mut self) -> Result<Option<usize>, AllocError>
-        requires held { IsHeld self.old.clauses.items self.old.trail self.old.watches }
-        requires single { AreSingle self.old.clauses.items self.old.watches.pairs.items }
+    pub(crate) fn begin(&mut self) -> Result<Option<usize>, AllocError>
+        requires held { IsHeld self.old.clauses self.old.trail self.old.watches }
+        requires single { AreSingle self.old.clauses self.old.watches.pairs.items }
         requires propagated { self.old.propagated ≡ 0 }
         ensures same { OnOk result (self.new ≡ record self.old { trail = self.new.trail }) }
-        ensures held { OnOk result (IsHeld self.old.clauses.items self.new.trail self.old.watches) }
+        ensures held { OnOk result (IsHeld self.old.clauses self.new.trail self.old.watches) }
         ensures on { OnOk result (GoesOn self.old.trail self.new.trail) }
         ensures at { IfOk result (IsAt self.new) }
     {
@@ -88,13 +162,13 @@ impl Search {
 
     /// Takes the literal of a clause, if it has only one. Says whether the clause has one that is not false.
     fn settle(&mut self, number: usize) -> Result<bool, AllocError>
-        requires number { number < length self.old.clauses.items }
-        requires held { IsHeld self.old.clauses.items self.old.trail self.old.watches }
-        requires single { AreSingle self.old.clauses.items self.old.watches.pairs.items }
+        requires number { number < length self.old.clauses }
+        requires held { IsHeld self.old.clauses self.old.trail self.old.watches }
+        requires single { AreSingle self.old.clauses self.old.watches.pairs.items }
         ensures same { OnOk result (self.new ≡ record self.old { trail = self.new.trail }) }
-        ensures held { OnOk result (IsHeld self.old.clauses.items self.new.trail self.old.watches) }
+        ensures held { OnOk result (IsHeld self.old.clauses self.new.trail self.old.watches) }
         ensures on { OnOk result (GoesOn self.old.trail self.new.trail) }
-        ensures watched { IfOk result (λ b. IsTrue b → (c : List Literal) (p : Pair) → slice_get self.old.clauses.items number ≡ Some c → slice_get self.old.watches.pairs.items number ≡ Some p → IsWatched [] self.new.trail.steps c p) }
+        ensures watched { IfOk result (λ b. IsTrue b → (c : List Literal) (p : Pair) → slice_get self.old.clauses number ≡ Some c → slice_get self.old.watches.pairs.items number ≡ Some p → IsWatched [] self.new.trail.steps c p) }
         ensures false_ { IfOk result (λ b. IsFalse b → IsConflict self.new number) }
     {
         if !self.watches.is_single(number) {
@@ -106,16 +180,16 @@ impl Search {
 
     /// Takes the literal of a clause that has only one, and says whether it is not false.
     fn take(&mut self, number: usize) -> Result<bool, AllocError>
-        requires number { number < length self.old.clauses.items }
-        requires held { IsHeld self.old.clauses.items self.old.trail self.old.watches }
-        requires single { (c : List Literal) → slice_get self.old.clauses.items number ≡ Some c → (l m : Literal) → Contains c l → Contains c m → m ≡ l }
+        requires number { number < length self.old.clauses }
+        requires held { IsHeld self.old.clauses self.old.trail self.old.watches }
+        requires single { (c : List Literal) → slice_get self.old.clauses number ≡ Some c → (l m : Literal) → Contains c l → Contains c m → m ≡ l }
         ensures same { OnOk result (self.new ≡ record self.old { trail = self.new.trail }) }
-        ensures held { OnOk result (IsHeld self.old.clauses.items self.new.trail self.old.watches) }
+        ensures held { OnOk result (IsHeld self.old.clauses self.new.trail self.old.watches) }
         ensures on { OnOk result (GoesOn self.old.trail self.new.trail) }
-        ensures true_ { IfOk result (λ b. IsTrue b → (c : List Literal) → slice_get self.old.clauses.items number ≡ Some c → HasTrue self.new.trail.steps c) }
-        ensures false_ { IfOk result (λ b. IsFalse b → (c : List Literal) → slice_get self.old.clauses.items number ≡ Some c → AreFalse self.new.trail.steps c) }
+        ensures true_ { IfOk result (λ b. IsTrue b → (c : List Literal) → slice_get self.old.clauses number ≡ Some c → HasTrue self.new.trail.steps c) }
+        ensures false_ { IfOk result (λ b. IsFalse b → (c : List Literal) → slice_get self.old.clauses number ≡ Some c → AreFalse self.new.trail.steps c) }
     {
-        let Some(literal) = self.clauses[number].literals().first().copied() else {
+        let Some(literal) = self.clauses.at(number).literals().first().copied() else {
             return Ok(false);
         };
         match self.trail.value_of(literal) {
@@ -130,10 +204,10 @@ impl Search {
     /// Propagates each step that is not propagated yet, and gives the number of a clause whose literals are
     /// all false.
     fn propagate(&mut self) -> Result<Option<usize>, AllocError>
-        requires held { IsHeld self.old.clauses.items self.old.trail self.old.watches }
+        requires held { IsHeld self.old.clauses self.old.trail self.old.watches }
         requires watching { IsWatching self.old }
         ensures same { OnOk result (self.new ≡ record self.old { trail = self.new.trail; watches = self.new.watches; propagated = self.new.propagated }) }
-        ensures held { OnOk result (IsHeld self.old.clauses.items self.new.trail self.new.watches) }
+        ensures held { OnOk result (IsHeld self.old.clauses self.new.trail self.new.watches) }
         ensures on { OnOk result (GoesOn self.old.trail self.new.trail) }
         ensures done { IfOk result (IsDone self.new) }
     {
@@ -154,7 +228,7 @@ impl Search {
     }
 
     /// Propagates each step, unless there is a conflict.
-    fn pursue(&mut self, conflict: Option<usize>) -> Result<Option<usize>, AllocError>
+    pub(crate) fn pursue(&mut self, conflict: Option<usize>) -> Result<Option<usize>, AllocError>
         requires kept { IsKept self.old }
         requires at { IsAt self.old conflict }
         ensures kept { OnOk result (IsKept self.new) }
@@ -170,7 +244,7 @@ impl Search {
     }
 
     /// Goes on where each step is propagated: answers, decides a variable, or learns from a conflict.
-    fn advance<O: Order>(
+    pub(crate) fn advance<O: Order>(
         &mut self,
         alloc: Global,
         order: &mut O,
@@ -274,7 +348,7 @@ impl Search {
         hints: Hints,
     ) -> Result<(), AllocError>
         requires kept { IsKept self.old }
-        requires learned { IsLearned self.old.trail.variables self.old.clauses.items self.old.trail.steps clause literal hints }
+        requires learned { IsLearned self.old.trail.variables self.old.clauses self.old.trail.steps clause literal hints }
         ensures ready { OnOk result ((form : Form) (n : ℕ) → length self.old.log < n → IsReady form n self.old → IsReady form n self.new) }
         ensures watching { OnOk result (IsWatching self.new) }
         ensures falls { OnOk result ((n : ℕ) → length self.old.log < n → left n self.new < left n self.old) }
@@ -284,6 +358,7 @@ impl Search {
         let pair = Pair {
             first: literal,
             second: beside,
+            start: 0,
         };
         if 0 < index && order.starts_over() {
             self.tell(order, 0)?;
@@ -304,7 +379,7 @@ impl Search {
         index: usize,
     ) -> Result<(), AllocError>
         requires kept { IsKept self.old }
-        requires learned { IsLearned self.old.trail.variables self.old.clauses.items self.old.trail.steps clause pair.first hints }
+        requires learned { IsLearned self.old.trail.variables self.old.clauses self.old.trail.steps clause pair.first hints }
         requires target { IsTarget self.old.trail.steps self.old.decisions.items clause pair index }
         ensures ready { OnOk result ((form : Form) (n : ℕ) → length self.old.log < n → IsReady form n self.old → IsReady form n self.new) }
         ensures watching { OnOk result (IsWatching self.new) }
@@ -327,7 +402,7 @@ impl Search {
         index: usize,
     ) -> Result<(), AllocError>
         requires kept { IsKept self.old }
-        requires learned { IsLearned self.old.trail.variables self.old.clauses.items self.old.trail.steps clause pair.first hints }
+        requires learned { IsLearned self.old.trail.variables self.old.clauses self.old.trail.steps clause pair.first hints }
         requires target { IsTarget self.old.trail.steps self.old.decisions.items clause pair index }
         requires later { 0 < index }
         ensures ready { OnOk result ((form : Form) (n : ℕ) → length self.old.log < n → IsReady form n self.old → IsReady form n self.new) }
@@ -369,19 +444,19 @@ impl Search {
 
     /// Adds a clause that leaves the first of these two of its literals, and takes that.
     fn assert_clause(&mut self, clause: Clause, pair: Pair) -> Result<(), AllocError>
-        requires held { IsHeld self.old.clauses.items self.old.trail self.old.watches }
+        requires held { IsHeld self.old.clauses self.old.trail self.old.watches }
         requires within { IsWithin self.old.trail.variables clause }
         requires first { Contains clause pair.first }
         requires second { pair.first ≢ pair.second → Contains clause pair.second }
         requires open_ { known_truth self.old.trail.steps pair.first ≡ None }
         requires others { AreFalseBeside self.old.trail.steps clause pair.first }
         requires quiet { (d : ℕ) → Contains (decision_places self.old.trail.steps) d → AreOpen (oldest d self.old.trail.steps) clause pair }
-        requires watched { AreWatched self.old.trail.steps self.old.trail.steps self.old.clauses.items self.old.watches.pairs.items }
+        requires watched { AreWatched self.old.trail.steps self.old.trail.steps self.old.clauses self.old.watches.pairs.items }
         ensures same { OnOk result (self.new ≡ record self.old { trail = self.new.trail; clauses = self.new.clauses; watches = self.new.watches }) }
-        ensures clauses { OnOk result (self.new.clauses.items ≡ self.old.clauses.items ++ clause ∷ []) }
-        ensures trail { OnOk result (self.new.trail ≡ record self.old.trail { steps = record { literal = pair.first; decision = false; reason = Some (length self.old.clauses.items) } ∷ self.old.trail.steps }) }
-        ensures held { OnOk result (IsHeld self.new.clauses.items self.new.trail self.new.watches) }
-        ensures watched { OnOk result (AreWatched self.old.trail.steps self.new.trail.steps self.new.clauses.items self.new.watches.pairs.items) }
+        ensures clauses { OnOk result (self.new.clauses ≡ self.old.clauses ++ clause ∷ []) }
+        ensures trail { OnOk result (self.new.trail ≡ record self.old.trail { steps = record { literal = pair.first; decision = false; reason = Some (length self.old.clauses) } ∷ self.old.trail.steps }) }
+        ensures held { OnOk result (IsHeld self.new.clauses self.new.trail self.new.watches) }
+        ensures watched { OnOk result (AreWatched self.old.trail.steps self.new.trail.steps self.new.clauses self.new.watches.pairs.items) }
     {
         let literal = pair.first;
         let number = self.clauses.len();
@@ -393,15 +468,15 @@ impl Search {
 
     /// Adds a clause of which these two literals are not false.
     fn enter_clause(&mut self, clause: Clause, pair: Pair) -> Result<(), AllocError>
-        requires held { IsHeld self.old.clauses.items self.old.trail self.old.watches }
+        requires held { IsHeld self.old.clauses self.old.trail self.old.watches }
         requires within { IsWithin self.old.trail.variables clause }
         requires open_ { AreOpen self.old.trail.steps clause pair }
         requires quiet { (d : ℕ) → Contains (decision_places self.old.trail.steps) d → AreOpen (oldest d self.old.trail.steps) clause pair }
-        requires watched { AreWatched self.old.trail.steps self.old.trail.steps self.old.clauses.items self.old.watches.pairs.items }
+        requires watched { AreWatched self.old.trail.steps self.old.trail.steps self.old.clauses self.old.watches.pairs.items }
         ensures same { OnOk result (self.new ≡ record self.old { clauses = self.new.clauses; watches = self.new.watches }) }
-        ensures clauses { OnOk result (self.new.clauses.items ≡ self.old.clauses.items ++ clause ∷ []) }
-        ensures held { OnOk result (IsHeld self.new.clauses.items self.old.trail self.new.watches) }
-        ensures watched { OnOk result (AreWatched self.old.trail.steps self.old.trail.steps self.new.clauses.items self.new.watches.pairs.items) }
+        ensures clauses { OnOk result (self.new.clauses ≡ self.old.clauses ++ clause ∷ []) }
+        ensures held { OnOk result (IsHeld self.new.clauses self.old.trail self.new.watches) }
+        ensures watched { OnOk result (AreWatched self.old.trail.steps self.old.trail.steps self.new.clauses self.new.watches.pairs.items) }
     {
         self.watches.enter(pair)?;
         self.clauses.push(clause)?;
@@ -411,7 +486,7 @@ impl Search {
     /// The literal of the clause, beside this one, that got its value last, and one more than the place
     /// of that step; or this one and 0.
     fn newest_beside(&self, clause: &Clause, literal: Lit) -> (Lit, usize)
-        requires held { IsHeld self.now.clauses.items self.now.trail self.now.watches }
+        requires held { IsHeld self.now.clauses self.now.trail self.now.watches }
         requires within { IsWithin self.now.trail.variables clause.now }
         requires false_ { AreFalse self.now.trail.steps clause.now }
         ensures { IsNewest self.now.trail.steps clause.now literal result.0 result.1 }
@@ -430,7 +505,7 @@ impl Search {
 
     /// How many of the oldest steps make a literal false; 0 of `except`.
     fn height(&self, literal: Lit, except: Lit) -> usize
-        requires held { IsHeld self.now.clauses.items self.now.trail self.now.watches }
+        requires held { IsHeld self.now.clauses self.now.trail self.now.watches }
         requires within { literal.variable < self.now.trail.variables }
         requires false_ { known_truth self.now.trail.steps literal ≡ Some false }
         ensures except { literal ≡ except → result ≡ 0 }
@@ -458,45 +533,15 @@ fn first_from(places: &[usize], kept: usize) -> usize
     unreachable!()
 }
 
-/// The same clauses.
-fn copied(alloc: Global, clauses: &[Clause]) -> Result<Vec<Clause>, AllocError>
-    ensures { IfOk result (λ copies. copies.items ≡ clauses.now) }
+/// Takes the mark of this number away, if there is one.
+fn take_mark(marks: &mut Vec<bool>, number: Option<usize>)
+    ensures count { length marks.new.items ≡ length marks.old.items }
+    ensures off { (k : ℕ) → slice_index_or marks.old.items k false ≡ false → slice_index_or marks.new.items k false ≡ false }
+    ensures taken { (k : ℕ) → number ≡ Some k → slice_index_or marks.new.items k false ≡ false }
 {
-    let mut copies = Vec::with_capacity(alloc, clauses.len())?;
-    for clause in clauses {
-        copies.push(Clause::from_slice(alloc, clause.literals())?)?;
-    }
-    Ok(copies)
-}
-
-/// A model of the form; a refutation of it by at most `budget` learned clauses, each a unit of the
-/// budget, and then the empty clause; or as many units as the budget, where these did not decide it.
-/// The order says which variables are decided.
-pub fn solve_by<O: Order>(
-    alloc: Global,
-    cnf: &Cnf,
-    order: &mut O,
-    budget: u64,
-) -> Result<Answer, AllocError>
-    requires { 1 ≤ budget }
-    ensures { IfOk result (IsAnswer cnf.now budget) }
-{
-    let mut search = Search::new(alloc, cnf)?;
-    let mut conflict = search.begin()?;
-    loop {
-        conflict = search.pursue(conflict)?;
-        if let Some(answer) = search.advance(alloc, order, budget, conflict)? {
-            return Ok(answer);
+    if let Some(number) = number {
+        if number < marks.len() {
+            marks[number] = false;
         }
-        conflict = None;
     }
-}
-
-/// As `solve_by`, with the order of averaged conflict numbers.
-pub fn solve(alloc: Global, cnf: &Cnf, budget: u64) -> Result<Answer, AllocError>
-    requires { 1 ≤ budget }
-    ensures { IfOk result (IsAnswer cnf.now budget) }
-{
-    let mut order = Averages::new(alloc, cnf.variables())?;
-    solve_by(alloc, cnf, &mut order, budget)
 }

@@ -29,6 +29,8 @@ pub struct Mark {
 pub struct Trail {
     steps: Vec<Step>,
     marks: Vec<Option<Mark>>,
+    /// The values of the marks, close together, since propagation reads little else.
+    values: Vec<Option<bool>>,
 }
 
 impl Model for Trail {
@@ -52,6 +54,7 @@ impl Trail {
         Ok(Trail {
             steps: Vec::new(alloc),
             marks: vec![in alloc; None; variables as usize]?,
+            values: vec![in alloc; None; variables as usize]?,
         })
     }
 
@@ -114,8 +117,8 @@ impl Trail {
         requires { literal.variable < self.now.variables }
         ensures { result ≡ known_truth self.now.steps literal }
     {
-        match self.marks[literal.variable() as usize] {
-            Some(mark) => Some(mark.value != literal.is_negated()),
+        match self.values[literal.variable() as usize] {
+            Some(value) => Some(value != literal.is_negated()),
             None => None,
         }
     }
@@ -126,11 +129,11 @@ impl Trail {
         ensures all { literal.variable < self.now.variables → known_truth self.now.steps literal ≡ Some true → IsTrue result }
     {
         let variable = literal.variable() as usize;
-        if variable >= self.marks.len() {
+        if variable >= self.values.len() {
             return false;
         }
-        match self.marks[variable] {
-            Some(mark) => mark.value != literal.is_negated(),
+        match self.values[variable] {
+            Some(value) => value != literal.is_negated(),
             None => false,
         }
     }
@@ -187,10 +190,10 @@ impl Trail {
             decision,
             reason,
         })?;
-        self.marks[literal.variable() as usize] = Some(Mark {
-            value: !literal.is_negated(),
-            place,
-        });
+        let variable = literal.variable() as usize;
+        let value = !literal.is_negated();
+        self.marks[variable] = Some(Mark { value, place });
+        self.values[variable] = Some(value);
         Ok(())
     }
 
@@ -202,7 +205,9 @@ impl Trail {
         ensures none { IfNone result ((self.old.steps ≡ []) × (self.new ≡ self.old)) }
     {
         let step = self.steps.pop()?;
-        self.marks[step.literal.variable() as usize] = None;
+        let variable = step.literal.variable() as usize;
+        self.marks[variable] = None;
+        self.values[variable] = None;
         Some(step)
     }
 

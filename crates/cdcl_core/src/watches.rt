@@ -5,6 +5,7 @@ ghost use Rattle.sat_form.specs.Satisfaction.{Literal, index_of, AreWithin};
 ghost use Rattle.cdcl_core.specs.Settled.{AreFalse};
 ghost use Rattle.cdcl_core.specs.Going.{GoesOn};
 
+use crate::clauses::Clauses;
 use crate::lists::{Lists, Watch};
 use crate::propagation::{Reading, read_beside};
 use crate::trail::Trail;
@@ -16,6 +17,8 @@ use std::alloc::{AllocError, Global};
 pub struct Pair {
     pub first: Lit,
     pub second: Lit,
+    /// Where in the clause another literal to watch is looked for first.
+    pub start: usize,
 }
 
 /// What a look at the clause of a watch came to.
@@ -45,7 +48,7 @@ impl Watches {
     ghost use Rattle.cdcl_core.specs.Steps.{oldest};
 
     /// Watches two different literals of each clause that has them.
-    pub fn new(alloc: Global, variables: u32, clauses: &[Clause]) -> Result<Self, AllocError>
+    pub fn new(alloc: Global, variables: u32, clauses: &Clauses) -> Result<Self, AllocError>
         requires { AreWithin variables clauses.now }
         ensures listed { IfOk result (λ w. AreListed variables clauses.now w.pairs.items w.lists) }
         ensures single { IfOk result (λ w. AreSingle clauses.now w.pairs.items) }
@@ -54,8 +57,8 @@ impl Watches {
             lists: Lists::new(alloc, 2 * variables as usize)?,
             pairs: Vec::with_capacity(alloc, clauses.len())?,
         };
-        for clause in clauses {
-            watches.enter(pair_of(clause))?;
+        for number in 0..clauses.len() {
+            watches.enter(pair_of(clauses.at(number)))?;
         }
         Ok(watches)
     }
@@ -147,7 +150,7 @@ impl Watches {
     fn look(
         &mut self,
         trail: &mut Trail,
-        clauses: &[Clause],
+        clauses: &Clauses,
         literal: Lit,
         place: usize,
         at: usize,
@@ -166,7 +169,8 @@ impl Watches {
         }
         let number = watch.number as usize;
         let other = self.other(number, literal);
-        match read_beside(trail, &clauses[number], other) {
+        let start = self.pairs[number].start;
+        match read_beside(trail, clauses.at(number), other, start) {
             Reading::True => {
                 let blocked = Watch {
                     number: watch.number,
@@ -175,10 +179,11 @@ impl Watches {
                 self.lists.set(literal, at, blocked);
                 Ok(Look::Kept)
             }
-            Reading::Open(next) => {
+            Reading::Open(next, place) => {
                 let pair = Pair {
                     first: other,
                     second: next,
+                    start: place,
                 };
                 let _ = self.rewatch(literal, at, watch.number, pair)?;
                 Ok(Look::Moved)
@@ -196,7 +201,7 @@ impl Watches {
     pub fn visit(
         &mut self,
         trail: &mut Trail,
-        clauses: &[Clause],
+        clauses: &Clauses,
         literal: Lit,
         place: usize,
     ) -> Result<Option<usize>, AllocError>
@@ -230,10 +235,12 @@ fn pair_of(clause: &Clause) -> Pair
         [] => Pair {
             first: Lit::default(),
             second: Lit::default(),
+            start: 0,
         },
         [first, ..] => Pair {
             first: *first,
             second: unlike(clause, *first),
+            start: 0,
         },
     }
 }

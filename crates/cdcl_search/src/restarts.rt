@@ -1,6 +1,6 @@
 //! When a search starts over: after so many conflicts, by the sequence of Luby.
 
-/// How many conflicts a run has where the sequence says 1. Runs are long, since learned clauses are kept for ever: each restart
+/// How many conflicts a run has where the sequence says 1. Runs are long, since few learned clauses are deleted: each restart
 /// brings clauses of another part of the search, which all later propagation reads.
 const UNIT: u64 = 2000;
 

@@ -25,40 +25,72 @@ fn add(alloc: Global, cnf: &mut Cnf, literals: &[Lit]) -> Result<(), Fail> {
     Ok(())
 }
 
-// Each of the pigeons sits in one of the holes, and no two in the same.
-fn pigeons(alloc: Global, pigeons: u32, holes: u32) -> Result<Cnf, Fail> {
-    let mut cnf = Cnf::new(alloc);
-    for _ in 0..100 {
-        let _ = cnf.fresh()?;
-    }
+// Adds that each of the pigeons sits in one of the holes, unless one of these literals is true, and no two in the same. The variables are
+// those from `first` on.
+fn add_pigeons(
+    alloc: Global,
+    cnf: &mut Cnf,
+    first: u32,
+    pigeons: u32,
+    holes: u32,
+    others: &[Lit],
+) -> Result<(), Fail>
+    requires { first ≤ 1000 }
+{
     for pigeon in 0..pigeons % 10 {
-        let mut clause = Clause::new(alloc);
+        let mut clause = Clause::from_slice(alloc, others)?;
         for hole in 0..holes % 10 {
-            clause.push(Lit::new(pigeon * 10 + hole, false))?;
+            clause.push(Lit::new(first + pigeon * 10 + hole, false))?;
         }
-        add(alloc, &mut cnf, clause.literals())?;
+        add(alloc, cnf, clause.literals())?;
         for other in 0..pigeon {
             for hole in 0..holes % 10 {
                 add(
                     alloc,
-                    &mut cnf,
+                    cnf,
                     &[
-                        Lit::new(pigeon * 10 + hole, true),
-                        Lit::new(other * 10 + hole, true),
+                        Lit::new(first + pigeon * 10 + hole, true),
+                        Lit::new(first + other * 10 + hole, true),
                     ],
                 )?;
             }
         }
     }
+    Ok(())
+}
+
+// The form of so many variables without clauses.
+fn form_without_clauses(alloc: Global, variables: u32) -> Result<Cnf, Fail> {
+    let mut cnf = Cnf::new(alloc);
+    for _ in 0..variables {
+        let _ = cnf.fresh()?;
+    }
+    Ok(cnf)
+}
+
+// Each of the pigeons sits in one of the holes, and no two in the same.
+fn pigeons(alloc: Global, pigeons: u32, holes: u32) -> Result<Cnf, Fail> {
+    let mut cnf = form_without_clauses(alloc, 100)?;
+    add_pigeons(alloc, &mut cnf, 0, pigeons, holes, &[])?;
+    Ok(cnf)
+}
+
+// Ten times that seven pigeons sit in six holes or a variable is true, and that not all ten variables are.
+fn ten_times_pigeons(alloc: Global) -> Result<Cnf, Fail> {
+    let mut cnf = form_without_clauses(alloc, 1_000)?;
+    let mut last = Clause::new(alloc);
+    for copy in 0..10 {
+        let other = Lit::new(copy * 100 + 99, false);
+        add_pigeons(alloc, &mut cnf, copy * 100, 7, 6, &[other])?;
+        last.push(other.inverse())?;
+    }
+    add(alloc, &mut cnf, last.literals())?;
     Ok(cnf)
 }
 
 // The form of these clauses over three variables, each literal by its variable and its sign.
 fn form_of(alloc: Global, clauses: &[Vec<(u32, bool)>]) -> Result<Cnf, Fail> {
-    let mut cnf = Cnf::new(alloc);
-    for _ in 0..3 {
-        let _ = cnf.fresh()?;
-    }
+    let mut cnf = form_without_clauses(alloc, 3)?;
     for literals in clauses {
         let mut clause = Clause::new(alloc);
         for (variable, negated) in literals {
@@ -147,6 +179,55 @@ fn five_pigeons_in_four_holes(rt: HostRuntime) -> Result<(), Fail> {
         _ => assert!(rt; false, "a budget that is not spent"),
     }
     assert_eq!(rt; fits(alloc, &cnf)?, false);
+    Ok(())
+}
+
+// Whether an entry of the log deletes a clause.
+fn has_deletion(log: &Log) -> bool {
+    for entry in log.entries() {
+        if let Entry::Deleted(_) = entry {
+            return true;
+        }
+    }
+    false
+}
+
+// How many entries of the log add a clause.
+fn units(log: &Log) -> u64 {
+    let mut count: u64 = 0;
+    for entry in log.entries() {
+        if let Entry::Added(_, _) = entry {
+            count = count.saturating_add(1);
+        }
+    }
+    count
+}
+
+// Whether the first answer is a refutation and the second a budget that is spent, both with deletions.
+fn deletes(alloc: Global, cnf: &Cnf, refuted: &Answer, spent: &Answer) -> Result<bool, Fail> {
+    if is_model_found(alloc, cnf, refuted)? {
+        return Ok(false);
+    }
+    match (refuted, spent) {
+        (Answer::Unsat(log), Answer::Spent(cut)) => {
+            Ok(has_deletion(log) && has_deletion(cut) && units(cut) == FEW)
+        }
+        _ => Ok(false),
+    }
+}
+
+// Fewer units than ten times seven pigeons take, and more than are learned before clauses are deleted.
+const FEW: u64 = 7_000;
+
+#[test]
+fn learned_clauses_are_deleted(rt: HostRuntime) -> Result<(), Fail> {
+    let alloc = rt.alloc();
+    let cnf = ten_times_pigeons(alloc)?;
+    let (refuted, spent) = (solve(alloc, &cnf, AMPLE)?, solve(alloc, &cnf, FEW)?);
+    assert!(rt; deletes(alloc, &cnf, &refuted, &spent)?);
+    let refuted = cdcl_search::solve(alloc, &cnf, AMPLE)?;
+    let spent = cdcl_search::solve(alloc, &cnf, FEW)?;
+    assert!(rt; deletes(alloc, &cnf, &refuted, &spent)?);
     Ok(())
 }
 

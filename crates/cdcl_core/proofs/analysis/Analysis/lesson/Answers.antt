@@ -1,6 +1,5 @@
 use Rattle.std.proofs.Common.{◌≡◌, ◌≤◌, ℕ, ◌<◌, inl, inr, true, false, List, [], ◌∷◌, ◌++◌, length, reverse, refl, sym, ap, ◌∙◌, subst, arith}
 use Rattle.std.specs.Prelude.{IsSome}
-use Rattle.std.proofs.lemmas.Option.{get_or_from_slice_get}
 use Rattle.std.proofs.lemmas.Bool.{cases_lt, true≢false}
 use Rattle.sat_form.specs.Satisfaction.{Literal}
 use Rattle.cdcl_core.specs.declared.trail.Step.{Step}
@@ -8,6 +7,7 @@ use Rattle.cdcl_core.specs.declared.analysis.Analysis.{Analysis}
 use Rattle.cdcl_core.specs.Steps.{known_value}
 use Rattle.cdcl_core.specs.Learning.{IsLearned}
 use Rattle.cdcl_core.specs.Cuts.{IsOn, IsCut, IsClauseOf}
+use Rattle.cdcl_core.proofs.Places.{slice_get-one}
 use Rattle.cdcl_core.proofs.Known.{value_of-step}
 use Rattle.cdcl_core.proofs.Tracing.{IsReached-begun, IsCut-begun, marked_at_low, IsLearned-at_end, IsRefuted-at_end}
 use Rattle.cdcl_core.proofs.analysis.Analysis.lesson.Goals as goal
@@ -23,8 +23,8 @@ resolve_newest-requires-clause-cut c =
     let numbers : c.args.conflict ∷ [] ≡ reverse c.push.new.self.items =
     sym (ap reverse (c.in_ok-push.ensures.items ∙ ap (λ xs. xs ++ c.args.conflict ∷ []) c.new-numbers.ensures.items)) in
     subst (IsCut c.args.clauses.now c.args.trail.now.steps c.mark_clause.new.self.high c.mark_clause.new.self.marked.items) numbers
-    (IsCut-begun c.args.clauses.now c.args.trail.now.steps c.args.conflict c.len-count.result c.mark_clause.new.self.high c.index-clauses-conflict.result c.begin.new.self.marked.items c.mark_clause.new.self.marked.items
-    c.requires.conflict (λ d found. c.index-clauses-conflict.is ∙ get_or_from_slice_get c.args.clauses.now c.args.conflict d c.index-clauses-conflict.result found)
+    (IsCut-begun c.args.clauses.now c.args.trail.now.steps c.args.conflict c.len-count.result c.mark_clause.new.self.high c.at.result.now c.begin.new.self.marked.items c.mark_clause.new.self.marked.items
+    c.requires.conflict (λ d found. slice_get-one c.args.clauses.now c.args.conflict c.at.result.now d c.at.ensures found)
     c.len-count.ensures.is (c.in_ok-mark_clause.ensures.reaches.high ∙ c.begin.ensures.places.3) c.begin.ensures.none c.in_ok-mark_clause.ensures.marks)
 
 pub take_clause-requires-clause-first : goal.take_clause-requires-clause-first
@@ -77,11 +77,11 @@ returns-in-None-clause-lesson c =
     c.in_ok-resolve_first.ensures.places.0 ∙ c.in_ok-minimise.ensures.places.0 ∙ c.in_ok-resolve_newest.ensures.places.0 ∙ c.in_ok-mark_clause.ensures.reaches.first ∙ c.begin.ensures.places.0 in
     let b_newest : b.newest ≡ newest = c.in_ok-mark_clause.ensures.reaches.newest ∙ c.begin.ensures.places.1 in
     let is_newest : a.newest ≡ newest = c.in_ok-resolve_first.ensures.places.1 ∙ c.in_ok-minimise.ensures.places.1 ∙ c.in_ok-resolve_newest.ensures.places.1 ∙ b_newest in
-    IsRefuted-at_end n clauses steps c.args.decisions.now c.len-count.result first newest a b numbers c.args.conflict c.index-clauses-conflict.result c.begin.new.self.marked.items
+    IsRefuted-at_end n clauses steps c.args.decisions.now c.len-count.result first newest a b numbers c.args.conflict c.at.result.now c.begin.new.self.marked.items
     c.requires.fresh c.requires.settled c.requires.places c.len-count.ensures.is c.ends_of-first.ensures is_first is_newest
     c.in_ok-resolve_first.ensures.reached c.in_ok-resolve_first.ensures.single c.in_ok-resolve_first.ensures.none
     (subst (IsCut clauses steps a.top a.marked.items) (sym named) c.in_ok-resolve_first.ensures.cut)
-    c.requires.conflict (λ d found. c.index-clauses-conflict.is ∙ get_or_from_slice_get clauses c.args.conflict d c.index-clauses-conflict.result found)
+    c.requires.conflict (λ d found. slice_get-one clauses c.args.conflict c.at.result.now d c.at.ensures found)
     c.in_ok-mark_clause.ensures.marks c.in_ok-mark_clause.ensures.reached b_newest
     (omega (arith, c.in_ok-resolve_first.ensures.places.2, c.in_ok-minimise.ensures.places.2, c.in_ok-resolve_newest.ensures.places.2))
     (past_end a.low (length steps) c.in-None.ensures.found.1)

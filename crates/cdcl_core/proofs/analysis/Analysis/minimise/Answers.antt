@@ -1,9 +1,9 @@
-use Rattle.std.proofs.Common.{◌≡◌, ◌≤◌, ◌<◌, ℕ, suc, List, Vec, Global, get_or, reverse, refl, sym, ◌∙◌, subst, arith}
+use Rattle.std.proofs.Common.{◌≡◌, ◌≤◌, ℕ, suc, List, Vec, Global, get_or, reverse, refl, sym, ◌∙◌, subst, arith}
 use Rattle.sat_form.specs.Satisfaction.{Literal}
 use Rattle.cdcl_core.specs.declared.trail.Step.{Step}
 use Rattle.cdcl_core.specs.declared.analysis.Analysis.{Analysis}
 use Rattle.cdcl_core.specs.Learning.{IsClear}
-use Rattle.cdcl_core.specs.Cuts.{IsCut, IsReached, Reaches}
+use Rattle.cdcl_core.specs.Cuts.{IsCut, IsReached}
 use Rattle.cdcl_core.proofs.Cutting.{IsCut-fewer}
 use Rattle.cdcl_core.proofs.analysis.Analysis.minimise.Goals as goal
 use Rattle.cdcl_core.proofs.analysis.Analysis.minimise.Goals.{then-self-place+then-place-bound+in_ok-leave_out, else-self-place}

@@ -1,12 +1,12 @@
-use Rattle.std.proofs.Common.{◌≡◌, ◌≢◌, ℕ, ◌<◌, ◌≤◌, ◌⊎◌, inl, inr, Bool, false, List, ◌∷◌, [], set, reverse, refl, sym, ap, ◌∙◌, subst, arith}
+use Rattle.std.proofs.Common.{◌≡◌, Bool, false, List, ◌∷◌, [], set, reverse, refl, sym, ap, ◌∙◌, subst}
 use Rattle.std.specs.Vec.{with_item}
 use Rattle.std.proofs.lemmas.List.{reverse-append}
-use Rattle.std.proofs.lemmas.Option.{get_or_from_slice_get}
 use Rattle.sat_form.specs.Satisfaction.{Literal}
 use Rattle.cdcl_core.specs.declared.trail.Step.{Step}
 use Rattle.cdcl_core.specs.declared.analysis.Analysis.{Analysis}
 use Rattle.cdcl_core.specs.Steps.{known_place}
 use Rattle.cdcl_core.specs.Cuts.{MarksClause, IsCut}
+use Rattle.cdcl_core.proofs.Places.{slice_get-one}
 use Rattle.cdcl_core.proofs.Known.{place_of-step}
 use Rattle.cdcl_core.proofs.Marking.{IsReached-cleared}
 use Rattle.cdcl_core.proofs.Cutting.{IsCut-replaced, off-replaced}
@@ -25,11 +25,11 @@ returns-clause-cut c =
     let steps : List Step = c.args.trail.now.steps in
     let old : List Bool = c.args.self.now.marked.items in
     let new : List Bool = c.mark_clause.new.self.marked.items in
-    let clause : c.index-clauses-reason.result ≡ c.requires.reason.clause =
-    c.index-clauses-reason.is ∙ get_or_from_slice_get c.args.clauses.now c.args.reason c.requires.reason.clause c.index-clauses-reason.result c.requires.reason.found in
+    let clause : c.at.result.now ≡ c.requires.reason.clause =
+    slice_get-one c.args.clauses.now c.args.reason c.at.result.now c.requires.reason.clause c.at.ensures c.requires.reason.found in
     let marks : MarksClause steps c.requires.reason.clause c.args.place (set old c.args.step.literal.variable false) new =
     subst (λ (x : List Literal). MarksClause steps x c.args.place (set old c.args.step.literal.variable false) new) clause
-    (subst (λ v. MarksClause steps c.index-clauses-reason.result c.args.place (set old v false) new) c.variable.ensures.is c.in_ok-mark_clause.ensures.marks) in
+    (subst (λ v. MarksClause steps c.at.result.now c.args.place (set old v false) new) c.variable.ensures.is c.in_ok-mark_clause.ensures.marks) in
     let numbers : reverse c.push.new.self.items ≡ c.args.reason ∷ reverse c.args.numbers.now.items =
     ap reverse c.in_ok-push.ensures.items ∙ reverse-append c.args.numbers.now.items (c.args.reason ∷ []) in
     subst (IsCut c.args.clauses.now steps c.args.place new) (sym numbers)
@@ -41,5 +41,5 @@ returns-clause-off c =
     let steps : List Step = c.args.trail.now.steps in
     let old : List Bool = c.args.self.now.marked.items in
     let new : List Bool = c.mark_clause.new.self.marked.items in
-    off-replaced c.args.trail.now.variables steps c.args.place c.args.step c.index-clauses-reason.result old new c.requires.fresh c.requires.step
-    (subst (λ v. MarksClause steps c.index-clauses-reason.result c.args.place (set old v false) new) c.variable.ensures.is c.in_ok-mark_clause.ensures.marks)
+    off-replaced c.args.trail.now.variables steps c.args.place c.args.step c.at.result.now old new c.requires.fresh c.requires.step
+    (subst (λ v. MarksClause steps c.at.result.now c.args.place (set old v false) new) c.variable.ensures.is c.in_ok-mark_clause.ensures.marks)

@@ -12,6 +12,8 @@ returns-in_ok-decide-in-Some-open_variable g c = λ form ready. (
 
 pub returns-in_ok-assignment-in-None : goal.returns-in_ok-assignment-in-None
 returns-in_ok-assignment-in-None g c = λ form ready.
-    let done : IsPropagated c.args.self.now = subst (IsDone c.args.self.now) c.in_default.is c.requires.done in
-    IsAnswer-sat form c.args.budget c.args.self.now c.in_ok-assignment-in-None.field-0 ready done c.in-None.ensures.none
-    c.in_ok-assignment-in-None.ensures.length c.in_ok-assignment-in-None.ensures.given
+    let done : IsPropagated c.args.self.now = subst (IsDone c.args.self.now) c.in_default.is c.requires.done in (
+      IsAnswer-sat form c.args.budget c.args.self.now c.in_ok-assignment-in-None.field-0 ready done c.in-None.ensures.none
+          c.in_ok-assignment-in-None.ensures.length c.in_ok-assignment-in-None.ensures.given,
+      tt,
+    )

@@ -1,7 +1,6 @@
-use Rattle.std.proofs.Common.{◌≡◌, ℕ, false, Some, List, [], ◌∷◌, ◌++◌, Vec, Global, length, get_or, refl, sym, ap, ◌∙◌, subst}
+use Rattle.std.proofs.Common.{◌≡◌, ℕ, false, Some, List, [], ◌∷◌, ◌++◌, length, get_or, refl, sym, ap, ◌∙◌, subst}
 use Rattle.std.specs.Prelude.{Contains}
 use Rattle.sat_form.specs.Satisfaction.{Literal}
-use Rattle.sat_form.specs.declared.clauses.Clause.{Clause}
 use Rattle.sat_form.specs.declared.logs.Entry.{Entry}
 use Rattle.sat_form.specs.declared.logs.Entry.TheVariants.{Added}
 use Rattle.cdcl_core.specs.declared.trail.Step.{Step}
@@ -23,50 +22,50 @@ assert_clause-requires-clause-held c =
     let count : ℕ = get_or c.args.self.now.decisions.items c.args.index 0 in
     let clauses : c.release.new.self.clauses ≡ c.args.self.now.clauses = ap (λ (x : Search). x.clauses) c.release.ensures.same in
     let watches : c.release.new.self.watches ≡ c.args.self.now.watches = ap (λ (x : Search). x.watches) c.release.ensures.same in
-    subst (λ (x : Vec Clause Global). IsHeld x.items c.release.new.self.trail c.release.new.self.watches) (sym clauses)
-    (subst (λ (x : Watches). IsHeld c.args.self.now.clauses.items c.release.new.self.trail x) (sym watches)
-    (subst (λ (x : Course). IsHeld c.args.self.now.clauses.items x c.args.self.now.watches) (sym c.release.ensures.trail)
-    (IsHeld-oldest c.args.self.now.clauses.items c.args.self.now.trail c.args.self.now.watches count c.requires.kept.held)))
+    subst (λ (x : List (List Literal)). IsHeld x c.release.new.self.trail c.release.new.self.watches) (sym clauses)
+    (subst (λ (x : Watches). IsHeld c.args.self.now.clauses c.release.new.self.trail x) (sym watches)
+    (subst (λ (x : Course). IsHeld c.args.self.now.clauses x c.args.self.now.watches) (sym c.release.ensures.trail)
+    (IsHeld-oldest c.args.self.now.clauses c.args.self.now.trail c.args.self.now.watches count c.requires.kept.held)))
 
 pub assert_clause-requires-clause-open_ : goal.assert_clause-requires-clause-open_
 assert_clause-requires-clause-open_ c =
-    let jump : IsJump c.args.self.now.trail.variables c.args.self.now.clauses.items c.args.self.now.trail.steps c.args.self.now.decisions.items c.args.clause c.args.pair.first c.args.hints c.args.pair.second c.requires.target.kept =
+    let jump : IsJump c.args.self.now.trail.variables c.args.self.now.clauses c.args.self.now.trail.steps c.args.self.now.decisions.items c.args.clause c.args.pair.first c.args.hints c.args.pair.second c.requires.target.kept =
     record { fresh = c.requires.kept.held.fresh; places_are = c.requires.kept.places; learned = c.requires.learned; newest = c.requires.target.newest } in
     let first : IsFirstFrom c.args.self.now.decisions.items c.requires.target.kept c.args.index = c.requires.target.first in
     let count : ℕ = get_or c.args.self.now.decisions.items c.args.index 0 in
     let steps : c.release.new.self.trail.steps ≡ oldest count c.args.self.now.trail.steps = ap (λ (x : Course). x.steps) c.release.ensures.trail in
-    ap (λ (x : List Step). known_truth x c.args.pair.first) steps ∙ jump_open c.args.self.now.trail.variables c.args.self.now.clauses.items c.args.self.now.trail.steps c.args.self.now.decisions.items c.args.clause c.args.pair.first c.args.hints c.args.pair.second c.requires.target.kept c.args.index jump first
+    ap (λ (x : List Step). known_truth x c.args.pair.first) steps ∙ jump_open c.args.self.now.trail.variables c.args.self.now.clauses c.args.self.now.trail.steps c.args.self.now.decisions.items c.args.clause c.args.pair.first c.args.hints c.args.pair.second c.requires.target.kept c.args.index jump first
 
 pub assert_clause-requires-clause-others : goal.assert_clause-requires-clause-others
 assert_clause-requires-clause-others c =
-    let jump : IsJump c.args.self.now.trail.variables c.args.self.now.clauses.items c.args.self.now.trail.steps c.args.self.now.decisions.items c.args.clause c.args.pair.first c.args.hints c.args.pair.second c.requires.target.kept =
+    let jump : IsJump c.args.self.now.trail.variables c.args.self.now.clauses c.args.self.now.trail.steps c.args.self.now.decisions.items c.args.clause c.args.pair.first c.args.hints c.args.pair.second c.requires.target.kept =
     record { fresh = c.requires.kept.held.fresh; places_are = c.requires.kept.places; learned = c.requires.learned; newest = c.requires.target.newest } in
     let first : IsFirstFrom c.args.self.now.decisions.items c.requires.target.kept c.args.index = c.requires.target.first in
     let count : ℕ = get_or c.args.self.now.decisions.items c.args.index 0 in
     let steps : c.release.new.self.trail.steps ≡ oldest count c.args.self.now.trail.steps = ap (λ (x : Course). x.steps) c.release.ensures.trail in
-    subst (λ (x : List Step). AreFalseBeside x c.args.clause c.args.pair.first) (sym steps) (jump_others c.args.self.now.trail.variables c.args.self.now.clauses.items c.args.self.now.trail.steps c.args.self.now.decisions.items c.args.clause c.args.pair.first c.args.hints c.args.pair.second c.requires.target.kept c.args.index jump first)
+    subst (λ (x : List Step). AreFalseBeside x c.args.clause c.args.pair.first) (sym steps) (jump_others c.args.self.now.trail.variables c.args.self.now.clauses c.args.self.now.trail.steps c.args.self.now.decisions.items c.args.clause c.args.pair.first c.args.hints c.args.pair.second c.requires.target.kept c.args.index jump first)
 
 pub assert_clause-requires-clause-quiet : goal.assert_clause-requires-clause-quiet
 assert_clause-requires-clause-quiet c =
-    let jump : IsJump c.args.self.now.trail.variables c.args.self.now.clauses.items c.args.self.now.trail.steps c.args.self.now.decisions.items c.args.clause c.args.pair.first c.args.hints c.args.pair.second c.requires.target.kept =
+    let jump : IsJump c.args.self.now.trail.variables c.args.self.now.clauses c.args.self.now.trail.steps c.args.self.now.decisions.items c.args.clause c.args.pair.first c.args.hints c.args.pair.second c.requires.target.kept =
     record { fresh = c.requires.kept.held.fresh; places_are = c.requires.kept.places; learned = c.requires.learned; newest = c.requires.target.newest } in
     let first : IsFirstFrom c.args.self.now.decisions.items c.requires.target.kept c.args.index = c.requires.target.first in
     let count : ℕ = get_or c.args.self.now.decisions.items c.args.index 0 in
     let steps : c.release.new.self.trail.steps ≡ oldest count c.args.self.now.trail.steps = ap (λ (x : Course). x.steps) c.release.ensures.trail in
     subst (λ (x : List Step). (d : ℕ) → Contains (decision_places x) d → AreOpen (oldest d x) c.args.clause c.args.pair) (sym steps)
-    (jump_quiet c.args.self.now.trail.variables c.args.self.now.clauses.items c.args.self.now.trail.steps c.args.self.now.decisions.items c.args.clause c.args.pair.first c.args.hints c.args.pair.second c.requires.target.kept c.args.index jump first)
+    (jump_quiet c.args.self.now.trail.variables c.args.self.now.clauses c.args.self.now.trail.steps c.args.self.now.decisions.items c.args.clause c.args.pair.first c.args.hints c.args.pair.second c.requires.target.kept c.args.index c.args.pair.start jump first)
 
 pub returns-clause-ready : goal.returns-clause-ready
 returns-clause-ready c =
     let count : ℕ = get_or c.args.self.now.decisions.items c.args.index 0 in
-    let s : Step = record { literal = c.args.pair.first; decision = false; reason = Some (length c.release.new.self.clauses.items) } in
+    let s : Step = record { literal = c.args.pair.first; decision = false; reason = Some (length c.release.new.self.clauses) } in
     let clauses : c.release.new.self.clauses ≡ c.args.self.now.clauses = ap (λ (x : Search). x.clauses) c.release.ensures.same in
     let trail : c.assert_clause.new.self.trail ≡ record { variables = c.args.self.now.trail.variables; steps = s ∷ oldest count c.args.self.now.trail.steps } =
     c.in_ok-assert_clause.ensures.trail ∙ ap (λ (x : Course). let y : Course = record { variables = x.variables; steps = s ∷ x.steps } in y) c.release.ensures.trail in
     let has : HasLearned c.args.self.now c.assert_clause.new.self c.args.clause c.args.hints c.args.index =
     record {
       variables = ap (λ (x : Course). x.variables) trail;
-      clauses = c.in_ok-assert_clause.ensures.clauses ∙ ap (λ (x : Vec Clause Global). x.items ++ c.args.clause ∷ []) clauses;
+      clauses = c.in_ok-assert_clause.ensures.clauses ∙ ap (λ (x : List (List Literal)). x ++ c.args.clause ∷ []) clauses;
       log = ap (λ (x : Search). x.log) c.in_ok-assert_clause.ensures.same
           ∙ c.in_ok-add.ensures.ok
           ∙ ap (λ (x : List Literal). c.release.new.self.log ++ Added x c.args.hints ∷ []) (c.in_ok-from_slice.ensures ∙ c.literals.ensures)
@@ -82,14 +81,14 @@ returns-clause-ready c =
 pub returns-clause-falls : goal.returns-clause-falls
 returns-clause-falls c =
     let count : ℕ = get_or c.args.self.now.decisions.items c.args.index 0 in
-    let s : Step = record { literal = c.args.pair.first; decision = false; reason = Some (length c.release.new.self.clauses.items) } in
+    let s : Step = record { literal = c.args.pair.first; decision = false; reason = Some (length c.release.new.self.clauses) } in
     let clauses : c.release.new.self.clauses ≡ c.args.self.now.clauses = ap (λ (x : Search). x.clauses) c.release.ensures.same in
     let trail : c.assert_clause.new.self.trail ≡ record { variables = c.args.self.now.trail.variables; steps = s ∷ oldest count c.args.self.now.trail.steps } =
     c.in_ok-assert_clause.ensures.trail ∙ ap (λ (x : Course). let y : Course = record { variables = x.variables; steps = s ∷ x.steps } in y) c.release.ensures.trail in
     let has : HasLearned c.args.self.now c.assert_clause.new.self c.args.clause c.args.hints c.args.index =
     record {
       variables = ap (λ (x : Course). x.variables) trail;
-      clauses = c.in_ok-assert_clause.ensures.clauses ∙ ap (λ (x : Vec Clause Global). x.items ++ c.args.clause ∷ []) clauses;
+      clauses = c.in_ok-assert_clause.ensures.clauses ∙ ap (λ (x : List (List Literal)). x ++ c.args.clause ∷ []) clauses;
       log = ap (λ (x : Search). x.log) c.in_ok-assert_clause.ensures.same
           ∙ c.in_ok-add.ensures.ok
           ∙ ap (λ (x : List Literal). c.release.new.self.log ++ Added x c.args.hints ∷ []) (c.in_ok-from_slice.ensures ∙ c.literals.ensures)
@@ -104,15 +103,15 @@ returns-clause-falls c =
 
 pub returns-clause-watching : goal.returns-clause-watching
 returns-clause-watching c =
-    let jump : IsJump c.args.self.now.trail.variables c.args.self.now.clauses.items c.args.self.now.trail.steps c.args.self.now.decisions.items c.args.clause c.args.pair.first c.args.hints c.args.pair.second c.requires.target.kept =
+    let jump : IsJump c.args.self.now.trail.variables c.args.self.now.clauses c.args.self.now.trail.steps c.args.self.now.decisions.items c.args.clause c.args.pair.first c.args.hints c.args.pair.second c.requires.target.kept =
     record { fresh = c.requires.kept.held.fresh; places_are = c.requires.kept.places; learned = c.requires.learned; newest = c.requires.target.newest } in
     let first : IsFirstFrom c.args.self.now.decisions.items c.requires.target.kept c.args.index = c.requires.target.first in
     let count : ℕ = get_or c.args.self.now.decisions.items c.args.index 0 in
     let steps : c.release.new.self.trail.steps ≡ oldest count c.args.self.now.trail.steps = ap (λ (x : Course). x.steps) c.release.ensures.trail in
-    let s : Step = record { literal = c.args.pair.first; decision = false; reason = Some (length c.release.new.self.clauses.items) } in
+    let s : Step = record { literal = c.args.pair.first; decision = false; reason = Some (length c.release.new.self.clauses) } in
     let clauses : c.release.new.self.clauses ≡ c.args.self.now.clauses = ap (λ (x : Search). x.clauses) c.release.ensures.same in
     let trail : c.assert_clause.new.self.trail ≡ record { variables = c.args.self.now.trail.variables; steps = s ∷ oldest count c.args.self.now.trail.steps } =
     c.in_ok-assert_clause.ensures.trail ∙ ap (λ (x : Course). let y : Course = record { variables = x.variables; steps = s ∷ x.steps } in y) c.release.ensures.trail in
-    IsWatching-asserted c.assert_clause.new.self count s c.args.self.now.trail.steps (place_stands c.args.self.now.trail.variables c.args.self.now.clauses.items c.args.self.now.trail.steps c.args.self.now.decisions.items c.args.clause c.args.pair.first c.args.hints c.args.pair.second c.requires.target.kept c.args.index jump first)
+    IsWatching-asserted c.assert_clause.new.self count s c.args.self.now.trail.steps (place_stands c.args.self.now.trail.variables c.args.self.now.clauses c.args.self.now.trail.steps c.args.self.now.decisions.items c.args.clause c.args.pair.first c.args.hints c.args.pair.second c.requires.target.kept c.args.index jump first)
     (ap (λ (x : Course). x.steps) trail) (ap (λ (x : Search). x.propagated) c.in_ok-assert_clause.ensures.same ∙ ap (λ (x : Search). x.propagated) c.release.ensures.same)
-    (subst (λ (x : List Step). AreWatched x c.assert_clause.new.self.trail.steps c.assert_clause.new.self.clauses.items c.assert_clause.new.self.watches.pairs.items) steps c.in_ok-assert_clause.ensures.watched)
+    (subst (λ (x : List Step). AreWatched x c.assert_clause.new.self.trail.steps c.assert_clause.new.self.clauses c.assert_clause.new.self.watches.pairs.items) steps c.in_ok-assert_clause.ensures.watched)

@@ -14,6 +14,6 @@ returns-clause-done c =
     ] in
     record {
       all = omega (arith, all, c.loop-step.invariant.watching.most);
-      watched = subst (λ (x : List Step). AreWatched x c.loop-step.self.trail.steps c.loop-step.self.clauses.items c.loop-step.self.watches.pairs.items)
+      watched = subst (λ (x : List Step). AreWatched x c.loop-step.self.trail.steps c.loop-step.self.clauses c.loop-step.self.watches.pairs.items)
           (oldest-all c.loop-step.self.propagated c.loop-step.self.trail.steps all) c.loop-step.invariant.watching.watched;
     }

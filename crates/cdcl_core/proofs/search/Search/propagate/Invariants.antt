@@ -7,7 +7,7 @@ use Rattle.cdcl_core.proofs.search.Search.propagate.Given as goal
 abbrev pub invariant-loop-step : goal.invariant-loop-step
 invariant-loop-step l = record {
   same : l.self ≡ record l.fn.self { trail = l.self.trail; watches = l.self.watches; propagated = l.self.propagated };
-  held : IsHeld l.fn.self.clauses.items l.self.trail l.self.watches;
+  held : IsHeld l.fn.self.clauses l.self.trail l.self.watches;
   on : GoesOn l.fn.self.trail l.self.trail;
   watching : IsWatching l.self;
 }

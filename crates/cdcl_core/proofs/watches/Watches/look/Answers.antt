@@ -1,4 +1,4 @@
-use Rattle.std.proofs.Common.{rules, ◌≡◌, ◌<◌, false, List, ◌∷◌, length, Some, None, refl, sym, ap, ◌∙◌, subst}
+use Rattle.std.proofs.Common.{◌≡◌, false, List, ◌∷◌, length, Some, None, refl, sym, ap, ◌∙◌, subst, arith}
 use Rattle.std.specs.Prelude.{Contains}
 use Rattle.std.proofs.lemmas.Option.{slice_get_within}
 use Rattle.sat_form.specs.Satisfaction.{Literal, IsWithin}
@@ -15,6 +15,7 @@ use Rattle.cdcl_core.proofs.Watching.{known_value-open, room-falsified}
 use Rattle.cdcl_core.proofs.Going.{GoesOn-push, IsHeld-push}
 use Rattle.cdcl_core.proofs.Looking.{IsSeen, seen, read_clause, next_apart, conflict_at, IsChoice, IsRewatched, IsHeld-moved, look-moved}
 use Rattle.cdcl_core.proofs.Blocking.{IsBlocked, IsHeld-blocked, look-blocked}
+use Rattle.cdcl_core.proofs.Places.{read_at}
 use Rattle.cdcl_core.proofs.watches.Watches.look.Goals as goal
 
 pub returns-then-is_true-clause-look : goal.returns-then-is_true-clause-look
@@ -30,32 +31,31 @@ other-other-requires c =
     let good : IsGood c.args.clauses.now c.args.self.now.pairs.items c.at-watch.result = c.requires.held.listed.good c.args.literal c.args.at c.at-watch.result c.at-watch.ensures in
     slice_get_within c.args.self.now.pairs.items c.at-watch.result.number good.pair good.watched
 
-pub bounds-clauses-number : goal.bounds-clauses-number
-bounds-clauses-number c =
+pub index-requires : goal.index-requires
+index-requires c =
+    let good : IsGood c.args.clauses.now c.args.self.now.pairs.items c.at-watch.result = c.requires.held.listed.good c.args.literal c.args.at c.at-watch.result c.at-watch.ensures in
+    omega (arith, slice_get_within c.args.self.now.pairs.items c.at-watch.result.number good.pair good.watched, c.args.self.now.pairs.ok.0)
+
+pub at-requires : goal.at-requires
+at-requires c =
     let good : IsGood c.args.clauses.now c.args.self.now.pairs.items c.at-watch.result = c.requires.held.listed.good c.args.literal c.args.at c.at-watch.result c.at-watch.ensures in
     slice_get_within c.args.clauses.now c.at-watch.result.number good.clause good.found
 
-pub offset_bounds-clauses-number : goal.offset_bounds-clauses-number
-offset_bounds-clauses-number c =
-    let good : IsGood c.args.clauses.now c.args.self.now.pairs.items c.at-watch.result = c.requires.held.listed.good c.args.literal c.args.at c.at-watch.result c.at-watch.ensures in
-    let within : c.at-watch.result.number < length c.args.clauses.now = slice_get_within c.args.clauses.now c.at-watch.result.number good.clause good.found in
-    search rules
-
 pub read_beside-requires-clause-within : goal.read_beside-requires-clause-within
 read_beside-requires-clause-within c =
-    IsWithin-read c.args.trail.now.variables c.args.clauses.now c.at-watch.result.number c.index-clauses-number.result c.requires.held.within
+    IsWithin-read c.args.trail.now.variables c.args.clauses.now c.at-watch.result.number c.at.result.now c.requires.held.within
     (let good : IsGood c.args.clauses.now c.args.self.now.pairs.items c.at-watch.result = c.requires.held.listed.good c.args.literal c.args.at c.at-watch.result c.at-watch.ensures in
-    slice_get_within c.args.clauses.now c.at-watch.result.number good.clause good.found) c.index-clauses-number.is
+    slice_get_within c.args.clauses.now c.at-watch.result.number good.clause good.found) (read_at c.args.clauses.now c.at-watch.result.number c.at.result.now c.at.ensures)
 
 pub read_beside-requires-clause-literal : goal.read_beside-requires-clause-literal
 read_beside-requires-clause-literal c =
     let s : IsSeen c.args.clauses.now c.args.self.now.pairs.items c.args.self.now.lists c.args.literal c.at-watch.result c.other-other.result =
     seen c.args.trail.now.variables c.args.clauses.now c.args.self.now.pairs.items c.args.self.now.lists c.args.literal c.args.at c.at-watch.result c.other-other.result c.requires.held.listed
     c.at-watch.ensures c.other-other.ensures.first c.other-other.ensures.second in
-    let same : c.index-clauses-number.result ≡ s.clause = read_clause c.args.clauses.now c.at-watch.result.number s.clause c.index-clauses-number.result s.found c.index-clauses-number.is in
-    let within : IsWithin c.args.trail.now.variables c.index-clauses-number.result =
-    IsWithin-read c.args.trail.now.variables c.args.clauses.now c.at-watch.result.number c.index-clauses-number.result c.requires.held.within (slice_get_within c.args.clauses.now c.at-watch.result.number s.clause s.found) c.index-clauses-number.is in
-    IsWithin-contains c.args.trail.now.variables c.index-clauses-number.result c.other-other.result within (subst (λ (x : List Literal). Contains x c.other-other.result) (sym same) s.stands)
+    let same : c.at.result.now ≡ s.clause = read_clause c.args.clauses.now c.at-watch.result.number s.clause c.at.result.now s.found (read_at c.args.clauses.now c.at-watch.result.number c.at.result.now c.at.ensures) in
+    let within : IsWithin c.args.trail.now.variables c.at.result.now =
+    IsWithin-read c.args.trail.now.variables c.args.clauses.now c.at-watch.result.number c.at.result.now c.requires.held.within (slice_get_within c.args.clauses.now c.at-watch.result.number s.clause s.found) (read_at c.args.clauses.now c.at-watch.result.number c.at.result.now c.at.ensures) in
+    IsWithin-contains c.args.trail.now.variables c.at.result.now c.other-other.result within (subst (λ (x : List Literal). Contains x c.other-other.result) (sym same) s.stands)
 
 pub rewatch-requires-clause-apart : goal.rewatch-requires-clause-apart
 rewatch-requires-clause-apart c =
@@ -66,9 +66,9 @@ rewatch-requires-clause-next c =
     let s : IsSeen c.args.clauses.now c.args.self.now.pairs.items c.args.self.now.lists c.args.literal c.at-watch.result c.other-other.result =
     seen c.args.trail.now.variables c.args.clauses.now c.args.self.now.pairs.items c.args.self.now.lists c.args.literal c.args.at c.at-watch.result c.other-other.result c.requires.held.listed
     c.at-watch.ensures c.other-other.ensures.first c.other-other.ensures.second in
-    let within : IsWithin c.args.trail.now.variables c.index-clauses-number.result =
-    IsWithin-read c.args.trail.now.variables c.args.clauses.now c.at-watch.result.number c.index-clauses-number.result c.requires.held.within (slice_get_within c.args.clauses.now c.at-watch.result.number s.clause s.found) c.index-clauses-number.is in
-    room-contains c.args.trail.now.variables (length c.args.self.now.lists) c.index-clauses-number.result c.in-Open.next c.requires.held.listed.room within c.in-Open.ensures.0
+    let within : IsWithin c.args.trail.now.variables c.at.result.now =
+    IsWithin-read c.args.trail.now.variables c.args.clauses.now c.at-watch.result.number c.at.result.now c.requires.held.within (slice_get_within c.args.clauses.now c.at-watch.result.number s.clause s.found) (read_at c.args.clauses.now c.at-watch.result.number c.at.result.now c.at.ensures) in
+    room-contains c.args.trail.now.variables (length c.args.self.now.lists) c.at.result.now c.in-Open.next c.requires.held.listed.room within c.in-Open.ensures.0
 
 pub rewatch-requires-clause-number : goal.rewatch-requires-clause-number
 rewatch-requires-clause-number c =
@@ -80,10 +80,10 @@ push-requires-clause-within c =
     let s : IsSeen c.args.clauses.now c.args.self.now.pairs.items c.args.self.now.lists c.args.literal c.at-watch.result c.other-other.result =
     seen c.args.trail.now.variables c.args.clauses.now c.args.self.now.pairs.items c.args.self.now.lists c.args.literal c.args.at c.at-watch.result c.other-other.result c.requires.held.listed
     c.at-watch.ensures c.other-other.ensures.first c.other-other.ensures.second in
-    let same : c.index-clauses-number.result ≡ s.clause = read_clause c.args.clauses.now c.at-watch.result.number s.clause c.index-clauses-number.result s.found c.index-clauses-number.is in
-    let within : IsWithin c.args.trail.now.variables c.index-clauses-number.result =
-    IsWithin-read c.args.trail.now.variables c.args.clauses.now c.at-watch.result.number c.index-clauses-number.result c.requires.held.within (slice_get_within c.args.clauses.now c.at-watch.result.number s.clause s.found) c.index-clauses-number.is in
-    IsWithin-contains c.args.trail.now.variables c.index-clauses-number.result c.other-other.result within (subst (λ (x : List Literal). Contains x c.other-other.result) (sym same) s.stands)
+    let same : c.at.result.now ≡ s.clause = read_clause c.args.clauses.now c.at-watch.result.number s.clause c.at.result.now s.found (read_at c.args.clauses.now c.at-watch.result.number c.at.result.now c.at.ensures) in
+    let within : IsWithin c.args.trail.now.variables c.at.result.now =
+    IsWithin-read c.args.trail.now.variables c.args.clauses.now c.at-watch.result.number c.at.result.now c.requires.held.within (slice_get_within c.args.clauses.now c.at-watch.result.number s.clause s.found) (read_at c.args.clauses.now c.at-watch.result.number c.at.result.now c.at.ensures) in
+    IsWithin-contains c.args.trail.now.variables c.at.result.now c.other-other.result within (subst (λ (x : List Literal). Contains x c.other-other.result) (sym same) s.stands)
 
 pub returns-in-True-clause-held : goal.returns-in-True-clause-held
 returns-in-True-clause-held c =
@@ -127,10 +127,10 @@ returns-in_ok-rewatch-in-Open-clause-held c =
     let s : IsSeen c.args.clauses.now c.args.self.now.pairs.items c.args.self.now.lists c.args.literal c.at-watch.result c.other-other.result =
     seen c.args.trail.now.variables c.args.clauses.now c.args.self.now.pairs.items c.args.self.now.lists c.args.literal c.args.at c.at-watch.result c.other-other.result c.requires.held.listed
     c.at-watch.ensures c.other-other.ensures.first c.other-other.ensures.second in
-    let same : c.index-clauses-number.result ≡ s.clause = read_clause c.args.clauses.now c.at-watch.result.number s.clause c.index-clauses-number.result s.found c.index-clauses-number.is in
-    let within : IsWithin c.args.trail.now.variables c.index-clauses-number.result =
-    IsWithin-read c.args.trail.now.variables c.args.clauses.now c.at-watch.result.number c.index-clauses-number.result c.requires.held.within (slice_get_within c.args.clauses.now c.at-watch.result.number s.clause s.found) c.index-clauses-number.is in
-    let q : Pair = record { first = c.other-other.result; second = c.in-Open.next } in
+    let same : c.at.result.now ≡ s.clause = read_clause c.args.clauses.now c.at-watch.result.number s.clause c.at.result.now s.found (read_at c.args.clauses.now c.at-watch.result.number c.at.result.now c.at.ensures) in
+    let within : IsWithin c.args.trail.now.variables c.at.result.now =
+    IsWithin-read c.args.trail.now.variables c.args.clauses.now c.at-watch.result.number c.at.result.now c.requires.held.within (slice_get_within c.args.clauses.now c.at-watch.result.number s.clause s.found) (read_at c.args.clauses.now c.at-watch.result.number c.at.result.now c.at.ensures) in
+    let q : Pair = record { first = c.other-other.result; second = c.in-Open.next; start = c.in-Open.place } in
     let choice : IsChoice c.args.trail.now.variables c.args.clauses.now c.args.trail.now.steps c.args.self.now c.args.place c.args.literal c.args.at c.at-watch.result q =
     record {
       seen = s;
@@ -141,7 +141,7 @@ returns-in_ok-rewatch-in-Open-clause-held c =
       fresh = c.requires.held.fresh;
       stands = c.at-watch.ensures;
       room = room-falsified c.args.trail.now.variables (length c.args.self.now.lists) c.args.place c.args.trail.now.steps c.args.literal c.requires.held.fresh c.requires.falsified c.requires.held.listed.room;
-      room_next = room-contains c.args.trail.now.variables (length c.args.self.now.lists) c.index-clauses-number.result c.in-Open.next c.requires.held.listed.room within c.in-Open.ensures.0;
+      room_next = room-contains c.args.trail.now.variables (length c.args.self.now.lists) c.at.result.now c.in-Open.next c.requires.held.listed.room within c.in-Open.ensures.0;
     } in
     let moved : IsRewatched c.args.self.now c.rewatch.new.self c.args.literal c.args.at c.at-watch.result q c.in_ok-rewatch-in-Open.field-0 =
     record { pairs = c.in_ok-rewatch-in-Open.ensures.pairs; lists = c.in_ok-rewatch-in-Open.ensures.lists } in
@@ -152,10 +152,10 @@ returns-in_ok-rewatch-in-Open-clause-look c =
     let s : IsSeen c.args.clauses.now c.args.self.now.pairs.items c.args.self.now.lists c.args.literal c.at-watch.result c.other-other.result =
     seen c.args.trail.now.variables c.args.clauses.now c.args.self.now.pairs.items c.args.self.now.lists c.args.literal c.args.at c.at-watch.result c.other-other.result c.requires.held.listed
     c.at-watch.ensures c.other-other.ensures.first c.other-other.ensures.second in
-    let same : c.index-clauses-number.result ≡ s.clause = read_clause c.args.clauses.now c.at-watch.result.number s.clause c.index-clauses-number.result s.found c.index-clauses-number.is in
-    let within : IsWithin c.args.trail.now.variables c.index-clauses-number.result =
-    IsWithin-read c.args.trail.now.variables c.args.clauses.now c.at-watch.result.number c.index-clauses-number.result c.requires.held.within (slice_get_within c.args.clauses.now c.at-watch.result.number s.clause s.found) c.index-clauses-number.is in
-    let q : Pair = record { first = c.other-other.result; second = c.in-Open.next } in
+    let same : c.at.result.now ≡ s.clause = read_clause c.args.clauses.now c.at-watch.result.number s.clause c.at.result.now s.found (read_at c.args.clauses.now c.at-watch.result.number c.at.result.now c.at.ensures) in
+    let within : IsWithin c.args.trail.now.variables c.at.result.now =
+    IsWithin-read c.args.trail.now.variables c.args.clauses.now c.at-watch.result.number c.at.result.now c.requires.held.within (slice_get_within c.args.clauses.now c.at-watch.result.number s.clause s.found) (read_at c.args.clauses.now c.at-watch.result.number c.at.result.now c.at.ensures) in
+    let q : Pair = record { first = c.other-other.result; second = c.in-Open.next; start = c.in-Open.place } in
     let choice : IsChoice c.args.trail.now.variables c.args.clauses.now c.args.trail.now.steps c.args.self.now c.args.place c.args.literal c.args.at c.at-watch.result q =
     record {
       seen = s;
@@ -166,7 +166,7 @@ returns-in_ok-rewatch-in-Open-clause-look c =
       fresh = c.requires.held.fresh;
       stands = c.at-watch.ensures;
       room = room-falsified c.args.trail.now.variables (length c.args.self.now.lists) c.args.place c.args.trail.now.steps c.args.literal c.requires.held.fresh c.requires.falsified c.requires.held.listed.room;
-      room_next = room-contains c.args.trail.now.variables (length c.args.self.now.lists) c.index-clauses-number.result c.in-Open.next c.requires.held.listed.room within c.in-Open.ensures.0;
+      room_next = room-contains c.args.trail.now.variables (length c.args.self.now.lists) c.at.result.now c.in-Open.next c.requires.held.listed.room within c.in-Open.ensures.0;
     } in
     let moved : IsRewatched c.args.self.now c.rewatch.new.self c.args.literal c.args.at c.at-watch.result q c.in_ok-rewatch-in-Open.field-0 =
     record { pairs = c.in_ok-rewatch-in-Open.ensures.pairs; lists = c.in_ok-rewatch-in-Open.ensures.lists } in
@@ -184,9 +184,9 @@ returns-in_ok-push-in-Single-clause-held c =
     let s : IsSeen c.args.clauses.now c.args.self.now.pairs.items c.args.self.now.lists c.args.literal c.at-watch.result c.other-other.result =
     seen c.args.trail.now.variables c.args.clauses.now c.args.self.now.pairs.items c.args.self.now.lists c.args.literal c.args.at c.at-watch.result c.other-other.result c.requires.held.listed
     c.at-watch.ensures c.other-other.ensures.first c.other-other.ensures.second in
-    let same : c.index-clauses-number.result ≡ s.clause = read_clause c.args.clauses.now c.at-watch.result.number s.clause c.index-clauses-number.result s.found c.index-clauses-number.is in
-    let within : IsWithin c.args.trail.now.variables c.index-clauses-number.result =
-    IsWithin-read c.args.trail.now.variables c.args.clauses.now c.at-watch.result.number c.index-clauses-number.result c.requires.held.within (slice_get_within c.args.clauses.now c.at-watch.result.number s.clause s.found) c.index-clauses-number.is in
+    let same : c.at.result.now ≡ s.clause = read_clause c.args.clauses.now c.at-watch.result.number s.clause c.at.result.now s.found (read_at c.args.clauses.now c.at-watch.result.number c.at.result.now c.at.ensures) in
+    let within : IsWithin c.args.trail.now.variables c.at.result.now =
+    IsWithin-read c.args.trail.now.variables c.args.clauses.now c.at-watch.result.number c.at.result.now c.requires.held.within (slice_get_within c.args.clauses.now c.at-watch.result.number s.clause s.found) (read_at c.args.clauses.now c.at-watch.result.number c.at.result.now c.at.ensures) in
     let step : Step = record { literal = c.other-other.result; decision = false; reason = Some c.at-watch.result.number } in
     let none : known_value c.args.trail.now.steps c.other-other.result.variable ≡ None = known_value-open c.args.trail.now.steps c.other-other.result c.in-Single.ensures.0 in
     let on : GoesOn c.args.trail.now c.push.new.self = GoesOn-push c.args.trail.now c.push.new.self step c.in_ok-push-in-Single.ensures.ok refl c.push.ensures.room none in
@@ -198,7 +198,7 @@ returns-in_ok-push-in-Single-clause-held c =
       others = λ m at other. c.in-Single.ensures.1 m (subst (λ (x : List Literal). Contains x m) (sym same) at) other;
     } in
     IsHeld-push c.args.clauses.now c.args.trail.now c.push.new.self c.args.self.now step c.at-watch.result.number c.in_ok-push-in-Single.ensures.ok refl refl reason
-    (IsWithin-contains c.args.trail.now.variables c.index-clauses-number.result c.other-other.result within (subst (λ (x : List Literal). Contains x c.other-other.result) (sym same) s.stands))
+    (IsWithin-contains c.args.trail.now.variables c.at.result.now c.other-other.result within (subst (λ (x : List Literal). Contains x c.other-other.result) (sym same) s.stands))
     none on c.requires.held
 
 pub returns-in_ok-push-in-Single-clause-look : goal.returns-in_ok-push-in-Single-clause-look
@@ -227,6 +227,6 @@ returns-in-False-clause-look c =
     let s : IsSeen c.args.clauses.now c.args.self.now.pairs.items c.args.self.now.lists c.args.literal c.at-watch.result c.other-other.result =
     seen c.args.trail.now.variables c.args.clauses.now c.args.self.now.pairs.items c.args.self.now.lists c.args.literal c.args.at c.at-watch.result c.other-other.result c.requires.held.listed
     c.at-watch.ensures c.other-other.ensures.first c.other-other.ensures.second in
-    let same : c.index-clauses-number.result ≡ s.clause = read_clause c.args.clauses.now c.at-watch.result.number s.clause c.index-clauses-number.result s.found c.index-clauses-number.is in
+    let same : c.at.result.now ≡ s.clause = read_clause c.args.clauses.now c.at-watch.result.number s.clause c.at.result.now s.found (read_at c.args.clauses.now c.at-watch.result.number c.at.result.now c.at.ensures) in
     conflict_at c.args.clauses.now c.args.trail.now.steps c.at-watch.result.number s.clause c.other-other.result s.found c.in-False.ensures.0
     (λ m at other. c.in-False.ensures.1 m (subst (λ (x : List Literal). Contains x m) (sym same) at) other)
