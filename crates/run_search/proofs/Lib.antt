@@ -1,3 +1,4 @@
 pub mod Formulas
 pub mod FirstStores
 pub mod StartsNone
+pub mod CountedObjects

@@ -1,6 +1,6 @@
 //! From a program to what its runs do.
 
-ghost use Rattle.std.specs.Prelude.{◌≡◌, ◌≤◌, true, false, None, IfOk, IfErr};
+ghost use Rattle.std.specs.Prelude.{◌≡◌, ◌≤◌, length, true, false, None, IfOk, IfErr};
 ghost use Rattle.std.specs.List.{list_all};
 ghost use Rattle.actions.specs.ByteList.{are_bytes};
 ghost use Rattle.actions.specs.Behaviour.{Thread};
@@ -12,6 +12,7 @@ ghost use Rattle.interleave.specs.World.{first_world};
 ghost use Rattle.goto_prog.specs.Flat.{main_code, plain_thread};
 ghost use Rattle.goto_prog.specs.Static.{is_static_code};
 ghost use Rattle.goto_unwind.specs.Counts.{passed};
+ghost use Rattle.goto_unwind.specs.LocalRuns.{MakesFew};
 ghost use Rattle.guarded_ssa.specs.Forms.{IsForm};
 ghost use Rattle.guarded_ssa.specs.Accesses.{AreObjects};
 ghost use Rattle.guarded_ssa.specs.Goals.{IsGoal};
@@ -26,6 +27,7 @@ use c_interp::safe_at_all;
 use c_profile::Admitted;
 use cdcl_search::{Answer, solve};
 use core_tree::{Bounds, Literal};
+use counted_code::lowered_code_counts_objects;
 use goto_checks::insert;
 use goto_lower::lower;
 use goto_prog::Unrolled;
@@ -86,7 +88,8 @@ fn prove_texts(literals: &[Literal])
     }
 }
 
-/// The code of a program with explicit checks and without loops and calls, or the count that passes its limit.
+/// The code of a program with explicit checks and without loops and calls, or the count that passes its limit. No local run of
+/// it makes more than 8,192 objects with those of its first store.
 fn unrolled_code(alloc: Global, file: &Admitted, bounds: &Bounds) -> Result<Unrolled, Stop>
     requires { file.now.pointers ≡ false }
     ensures counts { IfOk result (λ u. passed (view_core file.now) bounds.now ≡ None) }
@@ -94,10 +97,14 @@ fn unrolled_code(alloc: Global, file: &Admitted, bounds: &Bounds) -> Result<Unro
     ensures store { IfOk result (λ u. u.store ≡ first_objects (view_core file.now)) }
     ensures objects { IfOk result (λ u. AreObjects u.store) }
     ensures plain { IfOk result (λ u. is_static_code (main_code u).instructions ≡ true) }
+    ensures few { IfOk result (λ u. MakesFew (length u.store) (plain_thread u)) }
     ensures stop { IfErr result (λ s. StopsWith s (IsPassed bounds.now (view_core file.now))) }
 {
     prove_objects(file);
+    lowered_code_counts_objects();
     let _most = bounds.malloc_limit();
+    let _unwind = bounds.unwind();
+    let _set = bounds.set();
     if let Some(limit) = passed_limit(alloc, file, bounds)? {
         return Err(Stop::Limited(limit));
     }

@@ -1,6 +1,8 @@
-use Rattle.std.proofs.Common.{◌≤◌, sym, ◌∙◌, subst, arith}
+use Rattle.std.proofs.Common.{◌≡◌, ◌≤◌, true, sym, ◌∙◌, subst, arith}
+use Rattle.core_tree.specs.Ranges.{is_unwinding}
 use Rattle.core_tree.specs.Trees.{view_core}
 use Rattle.guarded_ssa.specs.Accesses.{AreObjects}
+use Rattle.run_search.proofs.CountedObjects.{is_bound, no_more}
 use Rattle.run_search.proofs.FirstStores.{storable}
 use Rattle.run_search.proofs.StartsNone.{none_start}
 use Rattle.run_search.proofs.searching.unrolled_code.Goals as goal
@@ -21,3 +23,12 @@ returns-in-Ok-clause-objects c =
     subst AreObjects
     (sym (c.in-Ok.ensures.store ∙ c.in_ok-checked.ensures.store ∙ c.in_ok-lowered.ensures.store (storable (view_core c.args.file.now) c.args.bounds.now c.in-Ok.ensures.within)))
     c.prove_objects.ensures
+
+pub returns-in-Ok-clause-few : goal.returns-in-Ok-clause-few
+returns-in-Ok-clause-few c =
+    let core = view_core c.args.file.now in
+    let limits = c.args.bounds.now in
+    let unwinding : is_unwinding limits.unwind ≡ true = is_bound limits.unwind (omega (arith, c.unwind-unwind.ensures.is, c.unwind-unwind.ensures.positive)) (omega (arith, c.unwind-unwind.ensures.is, c.unwind-unwind.ensures.at_most_1000)) in
+    let counted = c.lowered_code_counts_objects.ensures core limits unwinding c.set-set.ensures.in_range c.in_ok-lowered.lowered c.in_ok-lowered.ensures.code in
+    let store = c.in_ok-checked.ensures.store ∙ c.in_ok-lowered.ensures.store (storable core limits c.in-Ok.ensures.within) in
+    c.in-Ok.ensures.few (no_more core limits c.in_ok-lowered.lowered c.in_ok-checked.checked counted (c.in_ok-checked.ensures.allocations limits) store)

@@ -1,0 +1,4 @@
+pub mod Making
+pub mod ExpressionObjects
+pub mod StatementObjects
+pub mod FileObjects
