@@ -411,7 +411,12 @@ fn told(words: &[Word], event: &Event) -> Option<&'static str> {
                 Some("draws")
             }
         }
+        EventKind::Fill { .. } => Some("draws bytes"),
         EventKind::Read { .. } => Some("reads"),
+        EventKind::Look { .. } => Some("looks"),
+        EventKind::Alloc { .. } => Some("allocates"),
+        EventKind::Die { .. } => Some("ends a lifetime"),
+        EventKind::Free { .. } => Some("frees"),
         EventKind::Write { bytes, .. } => {
             if bits(words, *bytes.as_slice().first()?)? == 3 {
                 Some("writes 3")
@@ -639,11 +644,11 @@ fn accesses(alloc: Global) -> Result<Code, AllocError>
     Ok(Code::new(registers, blocks, instructions, true))
 }
 
-// The words of the read's answer, which are the variables 0 and 7, of 64 and of 24 bits: the byte that is tested is the lowest
+// The words of the read's answer, which are the variables 0 and 1, of 64 and of 24 bits: the byte that is tested is the lowest
 // but two of the second. Then what the read, the write and the end tell.
 static READS: [Told<'static>; 4] = [
     (
-        &[9, 0, 0, 0, 0, 0, 0, 0x030000],
+        &[9, 0x030000],
         &[
             (1, Some("reads")),
             (4, Some("writes 3")),
@@ -651,7 +656,7 @@ static READS: [Told<'static>; 4] = [
         ],
     ),
     (
-        &[9, 0, 0, 0, 0, 0, 0, 0x3030000],
+        &[9, 0x3030000],
         &[
             (1, Some("reads")),
             (4, Some("writes 3")),
@@ -659,11 +664,11 @@ static READS: [Told<'static>; 4] = [
         ],
     ),
     (
-        &[9, 0, 0, 0, 0, 0, 0, 0x040003],
+        &[9, 0x040003],
         &[(1, Some("reads")), (4, None), (5, Some("exits"))],
     ),
     (
-        &[9, 0, 0, 0, 0, 0, 0, 0],
+        &[9, 0],
         &[(1, Some("reads")), (4, None), (5, Some("exits"))],
     ),
 ];

@@ -3,10 +3,11 @@
 // Formulas of events made by hand.
 
 ghost use Rattle.std.specs.Prelude.{IsTrue};
-ghost use Rattle.value_nodes.specs.Values.{AreBytes};
-ghost use Rattle.guarded_ssa.specs.Forms.{IsBit, AreWords, EventIn, FormIn};
+ghost use Rattle.value_nodes.specs.Values.{IsWord, AreBytes};
+ghost use Rattle.guarded_ssa.specs.Forms.{IsBit, AreWords, EventIn, FormIn, IsFixed, IsStaticKind, AreStatic};
 
 use actions::{Bytes, Cells, Object, Store};
+use c_values::pointer_to;
 use guarded_ssa::{Event, EventKind, Nodes, ThreadForm};
 use mem_seq::sequential;
 use points_to::Sets;
@@ -44,20 +45,19 @@ fn nodes(alloc: Global, ids: &[Id]) -> Result<Nodes, AllocError> {
     Ok(Nodes::new(Vec::from_slice(alloc, ids)?))
 }
 
-fn read(object: u32, offset: u32, count: u32, answer: Nodes) -> EventKind {
+fn read(pointer: Id, count: u32, answer: Nodes) -> EventKind {
     EventKind::Read {
-        object,
-        offset,
+        pointer,
         count,
         answer,
     }
 }
 
-fn write(object: u32, offset: u32, bytes: Nodes) -> EventKind {
+fn write(pointer: Id, bytes: Nodes) -> EventKind {
     EventKind::Write {
-        object,
-        offset,
+        pointer,
         bytes,
+        first: false,
     }
 }
 
@@ -81,6 +81,11 @@ fn made(dag: &mut Dag, node: Node) -> Result<Id, AllocError> {
     } else {
         Err(AllocError)
     }
+}
+
+// The pointer to an offset of an object.
+fn pointer(dag: &mut Dag, object: u32, offset: u32) -> Result<Id, AllocError> {
+    made(dag, Node::Constant(pointer_to(object, offset), 64))
 }
 
 fn make_parts(alloc: Global, dag: &mut Dag) -> Result<Parts, AllocError> {
@@ -192,13 +197,14 @@ fn guard_of(parts: &Parts, tested: bool) -> Id {
 // A read of the object, answered by these words.
 fn reading(
     alloc: Global,
+    dag: &mut Dag,
     guard: Id,
     offset: u32,
     count: u32,
     words: &[Id],
 ) -> Result<Event, AllocError> {
     let answer = nodes(alloc, words)?;
-    Ok(at(guard, read(1, offset, count, answer)))
+    Ok(at(guard, read(pointer(dag, 1, offset)?, count, answer)))
 }
 
 fn event_of(
@@ -209,13 +215,18 @@ fn event_of(
 ) -> Result<Event, AllocError> {
     match tried {
         Tried::First { tested, offset } => {
-            reading(alloc, guard_of(parts, tested), offset, 4, &[parts.first])
+            let guard = guard_of(parts, tested);
+            reading(alloc, dag, guard, offset, 4, &[parts.first])
         }
-        Tried::Second => reading(alloc, parts.always, 0, 4, &[parts.second]),
-        Tried::Whole => reading(alloc, parts.always, 0, 10, &[parts.long, parts.short]),
+        Tried::Second => reading(alloc, dag, parts.always, 0, 4, &[parts.second]),
+        Tried::Whole => {
+            let words = &[parts.long, parts.short];
+            reading(alloc, dag, parts.always, 0, 10, words)
+        }
         Tried::Write { tested, object } => {
             let bytes = nodes(alloc, &parts.bytes)?;
-            Ok(at(guard_of(parts, tested), write(object, 0, bytes)))
+            let pointer = pointer(dag, object, 0)?;
+            Ok(at(guard_of(parts, tested), write(pointer, bytes)))
         }
         Tried::FirstIs(bits) => is_number(dag, parts.always, parts.first, bits),
         Tried::SecondIs(bits) => is_number(dag, parts.always, parts.second, bits),
@@ -260,6 +271,12 @@ fn are_bytes(dag: &Dag, ids: &[Id]) -> bool
         .all(|id| id.index < dag.len() && dag.width(*id) == 8)
 }
 
+fn is_pointer(dag: &Dag, id: Id) -> bool
+    ensures { IsTrue result → IsWord dag.now id 64 }
+{
+    id.index < dag.len() && dag.width(id) == 64
+}
+
 fn is_in(dag: &Dag, event: &Event) -> bool
     ensures { IsTrue result → EventIn dag.now event.now }
 {
@@ -267,13 +284,49 @@ fn is_in(dag: &Dag, event: &Event) -> bool
         return false;
     }
     match &event.kind {
-        EventKind::Draw { .. } => false,
-        EventKind::Read { count, answer, .. } => are_words(dag, answer.as_slice(), *count),
-        EventKind::Write { bytes, .. } => are_bytes(dag, bytes.as_slice()),
+        EventKind::Read {
+            pointer,
+            count,
+            answer,
+        } => is_pointer(dag, *pointer) && are_words(dag, answer.as_slice(), *count),
+        EventKind::Write { pointer, bytes, .. } => {
+            is_pointer(dag, *pointer) && are_bytes(dag, bytes.as_slice())
+        }
         EventKind::Exit => true,
         EventKind::Check { failing, .. } => is_bit(dag, *failing),
         EventKind::Assume { failing } => is_bit(dag, *failing),
+        _ => false,
     }
+}
+
+fn is_fixed(dag: &Dag, id: Id) -> bool
+    ensures { IsTrue result → IsFixed dag.now id }
+{
+    if id.index >= dag.len() {
+        return false;
+    }
+    match dag.node(id) {
+        Node::Constant(_, 64) => true,
+        _ => false,
+    }
+}
+
+// Whether an event is one of code without operations on pointers.
+fn is_static(dag: &Dag, event: &Event) -> bool
+    ensures { IsTrue result → IsStaticKind dag.now event.now.kind }
+{
+    match &event.kind {
+        EventKind::Read { pointer, .. } => is_fixed(dag, *pointer),
+        EventKind::Write { pointer, first, .. } => is_fixed(dag, *pointer) && !*first,
+        EventKind::Exit | EventKind::Check { .. } | EventKind::Assume { .. } => true,
+        _ => false,
+    }
+}
+
+fn are_static(dag: &Dag, events: &[Event]) -> bool
+    ensures { IsTrue result → AreStatic dag.now events.now }
+{
+    events.iter().all(|event| is_static(dag, event))
 }
 
 // Whether each node that the events name is one of the graph, of the right width.
@@ -288,7 +341,7 @@ fn goal(alloc: Global, number: usize, values: [u64; 6]) -> Result<u64, AllocErro
     let mut dag = Dag::new(alloc);
     let row = TRIED.get(number).copied().unwrap_or(&[]);
     let events = events(alloc, &mut dag, row)?;
-    if !are_in(&dag, &events) {
+    if !are_in(&dag, &events) || !are_static(&dag, &events) {
         return Err(AllocError);
     }
     let form = ThreadForm::new(events, store(alloc, number == 6)?);

@@ -41,33 +41,36 @@ bytes_left count k left is h = (let lt : k < (count + 7) / 8 = h in omega (arith
 -- ---- words
 
 -- so many words are made, and the next variable answers for the bytes that are left
-pub record Answering (d e : List Node) (apart place count k variable left : ℕ) (words : List Id) : Type 0 where
+pub record Answering (d e : List Node) (place count k variable left : ℕ) (words : List Id) : Type 0 where
   pub extends : Extends d e
   pub there : All (Within e) words
   pub rest : left ≡ count - 8 * k
+  pub next : variable ≡ place + k
   pub widths : map (width e) words ++ word_widths (word_count count - k) left ≡ word_widths (word_count count) count
-  pub values : (v : ℕ → ℕ) → map (value v e) words ++ words_by v apart (word_count count - k) variable left ≡ words_by v apart (word_count count) place count
+  pub values : (v : ℕ → ℕ) → map (value v e) words ++ words_by v (word_count count - k) variable left ≡ words_by v (word_count count) place count
 
-pub answering_none : (d : List Node) (apart place count : ℕ) (words : List Id) → words ≡ [] → Answering d d apart place count 0 place count words
-answering_none d apart place count words none =
+pub answering_none : (d : List Node) (place count : ℕ) (words : List Id) → words ≡ [] → Answering d d place count 0 place count words
+answering_none d place count words none =
     let all : word_count count - 0 ≡ word_count count = omega arith in
     record {
       extends = extends_itself d;
       there = subst (All (Within d)) (sym none) (All-nil (Within d));
       rest = omega arith;
+      next = omega arith;
       widths = (λ i. map (width d) (none i) ++ word_widths (all i) count);
-      values = λ v. (λ i. map (value v d) (none i) ++ words_by v apart (all i) place count);
+      values = λ v. (λ i. map (value v d) (none i) ++ words_by v (all i) place count);
     }
 
-pub answering_more : (d e f : List Node) (apart place count k variable next left less bits : ℕ) (words more : List Id) (id : Id) → Answering d e apart place count k variable left words → k < word_count count → Extends e f
-    → Makes e f (Variable variable bits) id → bits ≡ 8 * min 8 left → more ≡ words ++ id ∷ [] → next ≡ variable + apart → less ≡ left - 8 → Answering d f apart place count (k + 1) next less more
-answering_more d e f apart place count k variable next left less bits words more id a lt x made wide is next_is less_is =
+pub answering_more : (d e f : List Node) (place count k variable next left less bits : ℕ) (words more : List Id) (id : Id) → Answering d e place count k variable left words → k < word_count count → Extends e f
+    → Makes e f (Variable variable bits) id → bits ≡ 8 * min 8 left → more ≡ words ++ id ∷ [] → next ≡ suc variable → less ≡ left - 8 → Answering d f place count (k + 1) next less more
+answering_more d e f place count k variable next left less bits words more id a lt x made wide is next_is less_is =
     let n = word_count count in
     let w : width f id ≡ 8 * min 8 left = made.width_is ∙ wide in
     record {
       extends = extends_more d e f a.extends x;
       there = subst (All (Within f)) (sym is) (All-push (Within f) words id (all_within_stays e f words x a.there) made.there);
       rest = less_is ∙ ap (λ m. m - 8) a.rest ∙ behind count k;
+      next = omega (arith, next_is, a.next);
       widths =
           let stay = map_widths_stay e f words x a.there in
           (λ i. map (width f) (is i) ++ word_widths (n - (k + 1)) (less_is i))
@@ -79,23 +82,23 @@ answering_more d e f apart place count k variable next left less bits words more
       values = λ v.
           let stay = map_stays v e f words x a.there in
           let here : value v f id ≡ low_bits (8 * min 8 left) (v variable) = made.value_is v ∙ ap (λ m. low_bits m (v variable)) wide in
-          (λ i. map (value v f) (is i) ++ words_by v apart (n - (k + 1)) (next_is i) (less_is i))
-          ∙ ap (λ ws. ws ++ words_by v apart (n - (k + 1)) (variable + apart) (left - 8)) (map_push (value v f) words id)
-          ∙ push_front (map (value v f) words) (value v f id) (words_by v apart (n - (k + 1)) (variable + apart) (left - 8))
-          ∙ (λ i. stay i ++ (here i ∷ words_by v apart (n - (k + 1)) (variable + apart) (left - 8)))
-          ∙ ap (λ m. map (value v e) words ++ words_by v apart m variable left) (sym (fewer n k lt))
+          (λ i. map (value v f) (is i) ++ words_by v (n - (k + 1)) (next_is i) (less_is i))
+          ∙ ap (λ ws. ws ++ words_by v (n - (k + 1)) (suc variable) (left - 8)) (map_push (value v f) words id)
+          ∙ push_front (map (value v f) words) (value v f id) (words_by v (n - (k + 1)) (suc variable) (left - 8))
+          ∙ (λ i. stay i ++ (here i ∷ words_by v (n - (k + 1)) (suc variable) (left - 8)))
+          ∙ ap (λ m. map (value v e) words ++ words_by v m variable left) (sym (fewer n k lt))
           ∙ a.values v;
     }
 
-module _ (d e : List Node) (apart place count k variable left : ℕ) (words : List Id) (a : Answering d e apart place count k variable left words) (done : word_count count ≤ k) where
+module _ (d e : List Node) (place count k variable left : ℕ) (words : List Id) (a : Answering d e place count k variable left words) (done : word_count count ≤ k) where
   pub answering_words : AreWords e count words
   answering_words = record {
     there = a.there;
     widths = sym (append-nil (map (width e) words)) ∙ ap (λ m. map (width e) words ++ word_widths m left) (sym (none_left (word_count count) k done)) ∙ a.widths;
   }
 
-  pub answering_values : (v : ℕ → ℕ) → map (value v e) words ≡ words_by v apart (word_count count) place count
-  answering_values v = sym (append-nil (map (value v e) words)) ∙ ap (λ m. map (value v e) words ++ words_by v apart m variable left) (sym (none_left (word_count count) k done)) ∙ a.values v
+  pub answering_values : (v : ℕ → ℕ) → map (value v e) words ≡ words_by v (word_count count) place count
+  answering_values v = sym (append-nil (map (value v e) words)) ∙ ap (λ m. map (value v e) words ++ words_by v m variable left) (sym (none_left (word_count count) k done)) ∙ a.values v
 
 -- ---- the bytes of words
 

@@ -1,6 +1,5 @@
 pub mod Telling
 pub mod WordBytes
-pub mod Readings
 pub mod Valuations
 pub mod Needs
 pub mod CellWords
@@ -20,3 +19,9 @@ pub mod Ranged
 pub mod Behind
 pub mod Told
 pub mod Accesses
+pub mod Sizes
+pub mod Filling
+pub mod PartLists
+pub mod PartNodes
+pub mod SlotParts
+pub mod PointerFits

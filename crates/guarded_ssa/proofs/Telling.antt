@@ -1,25 +1,32 @@
--- What one pass tells is the run of the code.
-use Rattle.std.proofs.Common.{◌≡◌, ℕ, zero, suc, ◌≤◌, Bool, true, false, List, [], ◌∷◌, ◌++◌, length, Option, Some, None, refl, sym, ap, ◌∙◌, arith}
-use Rattle.std.specs.Prelude.{not, ◌==◌, if◌then◌else◌}
+-- What one pass tells under each valuation are the runs of the code, and no others.
+use Rattle.std.proofs.Common.{◌≡◌, ℕ, zero, suc, ◌+◌, ◌-◌, ◌*◌, ◌≤◌, Bool, true, false, List, [], ◌∷◌, ◌++◌, length, Option, Some, None, refl, sym, ap, subst, ◌∙◌, arith, nat_lt}
+use Rattle.std.specs.Prelude.{not, nat_le, ◌&&◌, ◌==◌, if◌then◌else◌, slice_index}
+use Rattle.std.proofs.lemmas.Bool.Decides.{nat_tests}
 use Rattle.words.specs.declared.check.Class.{Class}
 use Rattle.words.specs.declared.check.Class.TheVariants as classes
-use Rattle.actions.specs.Behaviour.{word_64}
+use Rattle.actions.specs.Behaviour.{Behaviour, word_64}
 use Rattle.actions.specs.declared.action.Action.TheVariants as actions
-use Rattle.actions.specs.declared.action.Answer.TheVariants as answers
-use Rattle.c_values.specs.Variables.{pointer_to, put_bytes}
+use Rattle.actions.specs.declared.action.Answer.{Answer}
 use Rattle.actions.specs.declared.action.Next.{Next}
 use Rattle.actions.specs.declared.action.Next.TheVariants.{Ended, Blocked, Broken}
+use Rattle.c_types.specs.declared.integers.IntegerType.{IntegerType}
+use Rattle.core_tree.specs.Typed.{is_within}
+use Rattle.c_values.specs.Variables.{put_bytes, low_bytes, word_count, drawn_count}
 use Rattle.goto_prog.specs.declared.code.Operation.{Operation}
 use Rattle.goto_prog.specs.declared.code.Operation.TheVariants as operations
 use Rattle.goto_prog.specs.declared.code.Instruction.{Instruction}
-use Rattle.goto_prog.specs.Static.{is_static, is_static_code}
+use Rattle.goto_prog.specs.Fitting.{operation_fits, code_fits, is_pointer}
+use Rattle.goto_prog.specs.Running.{is_exchange}
+use Rattle.goto_prog.specs.Threads.{behaving, ask, final}
+use Rattle.goto_prog.specs.Meaning.{Memory, register, with_blocks, word_of, first_count, check_class, calculated, action_of, answered_with, or_else, at, fills, operates, places}
 use Rattle.goto_prog.proofs.Registers.{both}
-use Rattle.std.proofs.lemmas.Bool.{false≢true}
-use Rattle.goto_prog.specs.Meaning.{Memory, register, with_register, with_blocks, bytes_of, word_of, bytes_in, check_class, calculated, or_else, at, operates, places}
+use Rattle.goto_prog.proofs.Blocks.{sizes_put}
 use Rattle.guarded_ssa.specs.Runs.{Run, stops, asks}
-use Rattle.guarded_ssa.specs.inner.Answers.{answer_at, running}
+use Rattle.guarded_ssa.specs.inner.Answers.{answer_at, answer_size, variables_of}
 use Rattle.guarded_ssa.specs.Arrivals.{stopped, read}
-use Rattle.guarded_ssa.specs.inner.Places.{Arrivals, arrived, breaks, tells, leaves, told}
+use Rattle.guarded_ssa.specs.inner.Places.{Arrivals, arrived, breaks, drawn, drawn_into, tells, leaves, told}
+use Rattle.guarded_ssa.proofs.Valuations.{IsEnd, Runs, Fits, fits_lower, fits_same, fits_end, fits_ask}
+use Rattle.guarded_ssa.proofs.Sizes.{Sized, sized_block, sized_calculated, sized_answered}
 
 abbrev pub end : Run
 end = stops (Ended (word_64 0))
@@ -30,163 +37,193 @@ Nowhere [] = Unit {0}
 Nowhere (None ∷ ws) = Nowhere ws
 Nowhere (Some m ∷ ws) = ⊥
 
--- at most one place is reached
-abbrev pub Single : Arrivals → Type 0
-Single [] = Unit {0}
-Single (None ∷ ws) = Single ws
-Single (Some m ∷ ws) = Nowhere ws
+-- ---- what isn't reached changes nothing
 
--- what is done from the place that is reached
-abbrev pub remaining : Arrivals → List (Memory → Run) → Run
-remaining [] ps = end
-remaining (Some m ∷ ws) [] = end
-remaining (Some m ∷ ws) (p ∷ ps) = p m
-remaining (None ∷ ws) [] = end
-remaining (None ∷ ws) (p ∷ ps) = remaining ws ps
+arrived_none : (n : ℕ) (ws : Arrivals) → arrived n None ws ≡ ws
+arrived_none n [] = refl
+arrived_none zero (w ∷ ws) = refl
+arrived_none (suc n) (w ∷ ws) = ap (λ xs. w ∷ xs) (arrived_none n ws)
 
-module _ (v : ℕ → ℕ) (apart : ℕ) where
-  abbrev Places : Type 0
-  Places = List (Memory → Run)
+pub leaves_none : (v : ℕ → ℕ) (x : ℕ) (o : Operation) (ws : Arrivals) → leaves v x o None ws ≡ ws
+leaves_none v x (operations.Constant r bits) ws = arrived_none 0 ws
+leaves_none v x (operations.Copy r a) ws = arrived_none 0 ws
+leaves_none v x (operations.Load r t b offset) ws = arrived_none 0 ws
+leaves_none v x (operations.Store b offset count a) ws = arrived_none 0 ws
+leaves_none v x (operations.Clear b size) ws = arrived_none 0 ws
+leaves_none v x (operations.CopyBytes into to from offset count) ws = arrived_none 0 ws
+leaves_none v x (operations.Convert r t u a) ws = arrived_none 0 ws
+leaves_none v x (operations.Sign r op t a) ws = arrived_none 0 ws
+leaves_none v x (operations.Arithmetic r op t u a b) ws = arrived_none 0 ws
+leaves_none v x (operations.Compare r op t a b) ws = arrived_none 0 ws
+leaves_none v x (operations.IsZero r a) ws = arrived_none 0 ws
+leaves_none v x (operations.Skip n) ws = arrived_none n ws
+leaves_none v x (operations.SkipIfZero a n) ws = arrived_none n (arrived 0 None ws) ∙ arrived_none 0 ws
+leaves_none v x (operations.Check c) ws = arrived_none 0 ws
+leaves_none v x (operations.Assert a) ws = arrived_none 0 ws
+leaves_none v x (operations.Assume a) ws = arrived_none 0 ws
+leaves_none v x (operations.Draw r bits) ws = arrived_none 0 ws
+leaves_none v x (operations.ReadObject b to k offset count) ws = arrived_none 0 ws
+leaves_none v x (operations.WriteObject k offset b from count) ws = arrived_none 0 ws
+leaves_none v x operations.Exit ws = refl
+leaves_none v x (operations.Fail class) ws = arrived_none 0 ws
+leaves_none v x (operations.Use a) ws = arrived_none 0 ws
+leaves_none v x (operations.Call g first count into r) ws = arrived_none 0 ws
+leaves_none v x (operations.Return u) ws = arrived_none 0 ws
+leaves_none v x (operations.Move r p i t k size class) ws = arrived_none 0 ws
+leaves_none v x (operations.Offset r p count) ws = arrived_none 0 ws
+leaves_none v x (operations.Same p q) ws = arrived_none 0 ws
+leaves_none v x (operations.Distance r p q k) ws = arrived_none 0 ws
+leaves_none v x (operations.Relate r op p q) ws = arrived_none 0 ws
+leaves_none v x (operations.Take b to from p count whole) ws = arrived_none 0 ws
+leaves_none v x (operations.Put b p from to count whole) ws = arrived_none 0 ws
+leaves_none v x (operations.Read b to p count) ws = arrived_none 0 ws
+leaves_none v x (operations.Write p b from count first) ws = arrived_none 0 ws
+leaves_none v x (operations.Look r p subscript) ws = arrived_none 0 ws
+leaves_none v x (operations.Fill b r) ws = arrived_none 0 ws
+leaves_none v x (operations.Alloc r b size readonly heap) ws = arrived_none 0 ws
+leaves_none v x (operations.Die p) ws = arrived_none 0 ws
+leaves_none v x (operations.Free p) ws = arrived_none 0 ws
+leaves_none v x (operations.MayFail r) ws = arrived_none 0 ws
+leaves_none v x (operations.Limit a b) ws = arrived_none 0 ws
 
-  remaining_none : (ws : Arrivals) → remaining ws [] ≡ end
-  remaining_none [] = refl
-  remaining_none (Some m ∷ ws) = refl
-  remaining_none (None ∷ ws) = refl
+-- ---- one step from a place that is reached
 
-  nowhere : (ws : Arrivals) (ps : Places) → Nowhere ws → remaining ws ps ≡ end
-  nowhere [] ps none = refl
-  nowhere (None ∷ ws) [] none = refl
-  nowhere (None ∷ ws) (p ∷ ps) none = nowhere ws ps none
-  nowhere (Some m ∷ ws) ps none = absurd none
+below : (m n : ℕ) → m ≤ n → nat_le m n ≡ true
+below m n h = grind (arith, nat_tests)
 
-  single_nowhere : (ws : Arrivals) → Nowhere ws → Single ws
-  single_nowhere [] none = tt
-  single_nowhere (None ∷ ws) none = single_nowhere ws none
-  single_nowhere (Some m ∷ ws) none = absurd none
+in_block : (blocks : List ℕ) (b offset count : ℕ) → nat_lt b (length blocks) ≡ true → offset + count ≤ slice_index blocks b → is_within blocks b offset count ≡ true
+in_block blocks b offset count there fits = λ k. there k && below (offset + count) (slice_index blocks b) fits k
 
-  -- one arrives where none did
-  arrives : (n : ℕ) (m : Memory) (ws : Arrivals) (ps : Places) → Nowhere ws → length ps ≤ length ws → remaining (arrived n (Some m) ws) ps ≡ at (running v apart) ps n m
-  arrives n m [] [] none room = refl
-  arrives n m [] (p ∷ ps) none room = absurd (omega (arith, room))
-  arrives zero m (w ∷ ws) [] none room = refl
-  arrives zero m (None ∷ ws) (p ∷ ps) none room = refl
-  arrives zero m (Some x ∷ ws) (p ∷ ps) none room = absurd none
-  arrives (suc n) m (None ∷ ws) [] none room = refl
-  arrives (suc n) m (None ∷ ws) (p ∷ ps) none room = arrives n m ws ps none (omega (arith, room))
-  arrives (suc n) m (Some x ∷ ws) ps none room = absurd none
+module _ (registers : List IntegerType) (blocks : List ℕ) where
+  -- the runs that are told from the place behind n others on are those of the code
+  abbrev TellsFrom : (x place : ℕ) → List Instruction → Type 0
+  TellsFrom x place code = (n : ℕ) (m : Memory) (ws : Arrivals) → Sized blocks m → Nowhere ws → length code ≤ length ws
+      → Fits x (λ v. read (told v blocks x code (arrived n (Some m) ws)) end) (at behaving (places behaving false place code) n m)
 
-  single_arrived : (n : ℕ) (m : Memory) (ws : Arrivals) → Nowhere ws → Single (arrived n (Some m) ws)
-  single_arrived n m [] none = tt
-  single_arrived zero m (None ∷ ws) none = none
-  single_arrived zero m (Some x ∷ ws) none = absurd none
-  single_arrived (suc n) m (None ∷ ws) none = single_arrived n m ws none
-  single_arrived (suc n) m (Some x ∷ ws) none = absurd none
+  module _ (x place : ℕ) (code : List Instruction) (tell : TellsFrom x place code) (ws : Arrivals) (none : Nowhere ws) (room : length code ≤ length ws) where
+    abbrev Told : (n : ℕ) → Memory → Runs
+    Told n m = λ v. read (told v blocks x code (arrived n (Some m) ws)) end
 
-  -- what isn't reached changes nothing
-  arrived_none : (n : ℕ) (ws : Arrivals) → arrived n None ws ≡ ws
-  arrived_none n [] = refl
-  arrived_none zero (w ∷ ws) = refl
-  arrived_none (suc n) (w ∷ ws) = ap (λ xs. w ∷ xs) (arrived_none n ws)
+    abbrev ps : List (Memory → Behaviour)
+    ps = places behaving false place code
 
-  length_arrived : (n : ℕ) (x : Option Memory) (ws : Arrivals) → length (arrived n x ws) ≡ length ws
-  length_arrived n x [] = refl
-  length_arrived zero x (w ∷ ws) = refl
-  length_arrived (suc n) x (w ∷ ws) = ap suc (length_arrived n x ws)
+    goes : (n : ℕ) (m : Memory) → Sized blocks m → Fits x (Told n m) (at behaving ps n m)
+    goes n m same = tell n m ws same none room
 
-  pub leaves_none : (place : ℕ) (o : Operation) (ws : Arrivals) → leaves v apart place o None ws ≡ ws
-  leaves_none place (operations.Constant r bits) ws = arrived_none 0 ws
-  leaves_none place (operations.Copy r a) ws = arrived_none 0 ws
-  leaves_none place (operations.Load r t b offset) ws = arrived_none 0 ws
-  leaves_none place (operations.Store b offset count a) ws = arrived_none 0 ws
-  leaves_none place (operations.Clear b size) ws = arrived_none 0 ws
-  leaves_none place (operations.CopyBytes into to from offset count) ws = arrived_none 0 ws
-  leaves_none place (operations.Convert r from to a) ws = arrived_none 0 ws
-  leaves_none place (operations.Sign r op t a) ws = arrived_none 0 ws
-  leaves_none place (operations.Arithmetic r op t u a b) ws = arrived_none 0 ws
-  leaves_none place (operations.Compare r op t a b) ws = arrived_none 0 ws
-  leaves_none place (operations.IsZero r a) ws = arrived_none 0 ws
-  leaves_none place (operations.Skip n) ws = arrived_none n ws
-  leaves_none place (operations.SkipIfZero a n) ws = arrived_none n (arrived 0 None ws) ∙ arrived_none 0 ws
-  leaves_none place (operations.Check c) ws = arrived_none 0 ws
-  leaves_none place (operations.Assert a) ws = arrived_none 0 ws
-  leaves_none place (operations.Assume a) ws = arrived_none 0 ws
-  leaves_none place (operations.Draw r bits) ws = arrived_none 0 ws
-  leaves_none place (operations.ReadObject b to k offset count) ws = arrived_none 0 ws
-  leaves_none place (operations.WriteObject k offset b from count) ws = arrived_none 0 ws
-  leaves_none place operations.Exit ws = refl
-  leaves_none place (operations.Fail class) ws = arrived_none 0 ws
-  leaves_none place (operations.Use a) ws = arrived_none 0 ws
-  leaves_none place (operations.Call g first count into r) ws = arrived_none 0 ws
-  leaves_none place (operations.Return x) ws = arrived_none 0 ws
-  leaves_none place _ ws = arrived_none 0 ws
+    jumps : (b : Bool) (n : ℕ) (m : Memory) → Sized blocks m
+        → Fits x (λ v. read (told v blocks x code (arrived n (if b then Some m else None) (arrived 0 (if not b then Some m else None) ws))) end) (if b then at behaving ps n m else at behaving ps 0 m)
+    jumps true n m same = fits_same x (Told n m) _ _ (λ v. ap (λ xs. read (told v blocks x code (arrived n (Some m) xs)) end) (arrived_none 0 ws)) (goes n m same)
+    jumps false n m same = fits_same x (Told 0 m) _ _ (λ v. ap (λ xs. read (told v blocks x code xs) end) (arrived_none n (arrived 0 (Some m) ws))) (goes 0 m same)
 
-  -- ---- one step from a place that is reached
+    breaks_or : (c : Option Class) (line f : ℕ) (m : Memory) → Sized blocks m → Fits x (λ v. read (breaks c line f ++ told v blocks x code (arrived 0 (Some m) ws)) end) (or_else behaving c line f (at behaving ps 0 m))
+    breaks_or None line f m same = goes 0 m same
+    breaks_or (Some c) line f m same = fits_end x (Broken c line f) tt
 
-  abbrev Tells : ℕ → List Instruction → Type 0
-  Tells place code = (ws : Arrivals) → Single ws → length code ≤ length ws → read (told v apart place code ws) end ≡ remaining ws (places (running v apart) false place code)
+    ends_or : (b : Bool) (next : Next) (m : Memory) → IsEnd next → Sized blocks m
+        → Fits x (λ v. read ((if b then stopped next ∷ [] else []) ++ told v blocks x code (arrived 0 (Some m) ws)) end) (if b then final next else at behaving ps 0 m)
+    ends_or true next m ends same = fits_end x next ends
+    ends_or false next m ends same = goes 0 m same
 
-  length_places : (place : ℕ) (code : List Instruction) → length (places (running v apart) false place code) ≡ length code
-  length_places place [] = refl
-  length_places place (i ∷ code) = ap suc (length_places (suc place) code)
+    -- words are drawn into a block: of so many at most as many as there are variables in front of x
+    draws : (at_place line f b size words offset y : ℕ) (m : Memory) → y + words ≤ x → offset + 8 * words ≤ size + 7 → size ≤ slice_index blocks b → nat_lt b (length blocks) ≡ true → Sized blocks m
+        → Fits y (λ v. read (drawn v line f words size offset y ++ told v blocks x code (arrived 0 (Some (drawn_into v b words size offset y m)) ws)) end) (fills behaving words at_place line f b size offset ps m)
+    draws at_place line f b size zero offset y m few fits within there same = fits_lower y x _ _ (omega (arith, few)) (goes 0 m same)
+    draws at_place line f b size (suc k) offset y m few fits within there same =
+        let count = drawn_count size offset in
+        let next : Answer → Memory = λ a. with_blocks m (put_bytes m.blocks b offset (low_bytes count (word_of a))) in
+        fits_ask y (actions.Draw (8 * count)) line f
+        (λ a v. read (drawn v line f k size (offset + 8) (suc y) ++ told v blocks x code (arrived 0 (Some (drawn_into v b k size (offset + 8) (suc y) (next a))) ws)) end)
+        (λ a. fills behaving k at_place line f b size (offset + 8) ps (next a))
+        (λ a shape.
+        let at : y + 1 ≡ suc y = omega arith in
+        let kept : Sized blocks (next a) = sizes_put blocks m.blocks b offset count (word_of a) [] same (in_block blocks b offset count there (omega (arith, fits, within))) (omega arith) in
+        subst (λ z. Fits z (λ v. read (drawn v line f k size (offset + 8) (suc y) ++ told v blocks x code (arrived 0 (Some (drawn_into v b k size (offset + 8) (suc y) (next a))) ws)) end) (fills behaving k at_place line f b size (offset + 8) ps (next a))) (sym at)
+        (draws at_place line f b size k (offset + 8) (suc y) (next a) (omega (arith, few)) (omega (arith, fits)) within there kept))
 
-  module _ (place : ℕ) (code : List Instruction) (tell : Tells place code) (m : Memory) (ws : Arrivals) (none : Nowhere ws) (room : length code ≤ length ws) where
-    goes : (n : ℕ) (m' : Memory) → read (told v apart place code (arrived n (Some m') ws)) end ≡ at (running v apart) (places (running v apart) false place code) n m'
-    goes n m' =
-        tell (arrived n (Some m') ws) (single_arrived n m' ws none) (omega (arith, room, length_arrived n (Some m') ws))
-        ∙ arrives n m' ws (places (running v apart) false place code) none (omega (arith, room, length_places place code))
+  -- one instruction whose variables are those from y on, and the code behind it
+  module _ (y place : ℕ) (o : Operation) (fits : (behind : ℕ) × (operation_fits registers blocks behind o ≡ true)) (code : List Instruction) (tell : TellsFrom (y + variables_of blocks o) (suc place) code) (ws : Arrivals) (none : Nowhere ws) (room : length code ≤ length ws) (line f : ℕ) where
+    abbrev x : ℕ
+    x = y + variables_of blocks o
 
-    jumps : (b : Bool) (n : ℕ) → read (told v apart place code (arrived n (if b then Some m else None) (arrived 0 (if not b then Some m else None) ws))) end
-        ≡ (if b then at (running v apart) (places (running v apart) false place code) n m else at (running v apart) (places (running v apart) false place code) 0 m)
-    jumps true n = ap (λ xs. read (told v apart place code (arrived n (Some m) xs)) end) (arrived_none 0 ws) ∙ goes n m
-    jumps false n = ap (λ xs. read (told v apart place code xs) end) (arrived_none n (arrived 0 (Some m) ws)) ∙ goes 0 m
+    abbrev rest : List (Memory → Behaviour)
+    rest = places behaving false (suc place) code
 
-    breaks_or : (c : Option Class) (line f : ℕ) → read (breaks c line f ++ told v apart place code (arrived 0 (Some m) ws)) end ≡ or_else (running v apart) c line f (at (running v apart) (places (running v apart) false place code) 0 m)
-    breaks_or None line f = goes 0 m
-    breaks_or (Some c) line f = refl
+    -- it goes on with a memory
+    goes_on : (m : Memory) → Sized blocks m → Fits y (λ v. read (told v blocks x code (arrived 0 (Some m) ws)) end) (at behaving rest 0 m)
+    goes_on m same = fits_lower y x _ _ (omega arith) (goes x (suc place) code tell ws none room 0 m same)
 
-    ends_or : (b : Bool) (next : Next) → read ((if b then stopped next ∷ [] else []) ++ told v apart place code (arrived 0 (Some m) ws)) end ≡ (if b then stops next else at (running v apart) (places (running v apart) false place code) 0 m)
-    ends_or true next = refl
-    ends_or false next = goes 0 m
+    calculates : (m : Memory) → Sized blocks m → Fits y (λ v. read (told v blocks x code (arrived 0 (Some (calculated o m)) ws)) end) (at behaving rest 0 (calculated o m))
+    calculates m same = goes_on (calculated o m) (sized_calculated registers blocks fits.0 o m fits.1 same)
 
-    step : (line f from : ℕ) (o : Operation) → is_static o ≡ true → read (tells v apart from line f o m ++ told v apart place code (leaves v apart from o (Some m) ws)) end ≡ operates (running v apart) false from line f o (places (running v apart) false place code) m
-    step line f from (operations.Constant r bits) static = goes 0 (calculated (operations.Constant r bits) m)
-    step line f from (operations.Copy r a) static = goes 0 (calculated (operations.Copy r a) m)
-    step line f from (operations.Load r t b offset) static = goes 0 (calculated (operations.Load r t b offset) m)
-    step line f from (operations.Store b offset count a) static = goes 0 (calculated (operations.Store b offset count a) m)
-    step line f from (operations.Clear b size) static = goes 0 (calculated (operations.Clear b size) m)
-    step line f from (operations.CopyBytes into to b offset count) static = goes 0 (calculated (operations.CopyBytes into to b offset count) m)
-    step line f from (operations.Convert r t u a) static = goes 0 (calculated (operations.Convert r t u a) m)
-    step line f from (operations.Sign r op t a) static = goes 0 (calculated (operations.Sign r op t a) m)
-    step line f from (operations.Arithmetic r op t u a b) static = goes 0 (calculated (operations.Arithmetic r op t u a b) m)
-    step line f from (operations.Compare r op t a b) static = goes 0 (calculated (operations.Compare r op t a b) m)
-    step line f from (operations.IsZero r a) static = goes 0 (calculated (operations.IsZero r a) m)
-    step line f from (operations.Skip n) static = goes n m
-    step line f from (operations.SkipIfZero a n) static = jumps (register m a == 0) n
-    step line f from (operations.Check c) static = breaks_or (check_class c m) line f
-    step line f from (operations.Assert a) static = ends_or (register m a == 0) (Broken classes.Assertion line f)
-    step line f from (operations.Assume a) static = ends_or (register m a == 0) Blocked
-    step line f from (operations.Draw r bits) static =
-        ap (asks (actions.Draw bits) line f (answer_at v apart from (actions.Draw bits))) (goes 0 (with_register m r (word_of (answer_at v apart from (actions.Draw bits)))))
-    step line f from (operations.ReadObject b to k offset count) static =
-        let action = actions.Read (pointer_to k offset) count in
-        let answer = answer_at v apart from action in
-        ap (asks action line f answer) (goes 0 (with_blocks m (put_bytes m.blocks b to (bytes_in answer))))
-    step line f from (operations.WriteObject k offset b at count) static = ap (asks (actions.Write (pointer_to k offset) (bytes_of m.blocks b at count) false) line f answers.Done) (goes 0 m)
-    step line f from operations.Exit static = refl
-    step line f from (operations.Fail class) static = refl
-    step line f from (operations.Use a) static = goes 0 m
-    step line f from (operations.Call g first count into r) static = refl
-    step line f from (operations.Return x) static = refl
-    step line f from _ static = absurd (false≢true static)
+    -- an action, and what comes behind its answer
+    asks_one : (m : Memory) → is_exchange o ≡ true → answer_size (action_of o m) ≡ variables_of blocks o → Sized blocks m
+        → Fits y (λ v. asks (action_of o m) line f (answer_at v y (action_of o m)) (read (told v blocks x code (arrived 0 (Some (answered_with o m (answer_at v y (action_of o m)))) ws)) end))
+        (ask (action_of o m) line f (λ a. at behaving rest 0 (answered_with o m a)))
+    asks_one m h size same =
+        fits_ask y (action_of o m) line f (λ a v. read (told v blocks x code (arrived 0 (Some (answered_with o m a)) ws)) end) (λ a. at behaving rest 0 (answered_with o m a))
+        (λ a shape. subst (λ n. Fits (y + n) (λ v. read (told v blocks x code (arrived 0 (Some (answered_with o m a)) ws)) end) (at behaving rest 0 (answered_with o m a))) (sym size)
+        (goes x (suc place) code tell ws none room 0 (answered_with o m a) (sized_answered registers blocks fits.0 o m a h fits.1 shape same)))
+
+  step : (y place : ℕ) (o : Operation) (fits : (behind : ℕ) × (operation_fits registers blocks behind o ≡ true)) (code : List Instruction) → TellsFrom (y + variables_of blocks o) (suc place) code → (m : Memory) (ws : Arrivals) → Sized blocks m → Nowhere ws → length code ≤ length ws → (line f : ℕ)
+      → Fits y (λ v. read (tells v y line f o m ++ told v blocks (y + variables_of blocks o) code (leaves v y o (Some m) ws)) end) (operates behaving false place line f o (places behaving false (suc place) code) m)
+  step y place (operations.Constant r bits) fits code tell m ws same none room line f = calculates y place (operations.Constant r bits) fits code tell ws none room line f m same
+  step y place (operations.Copy r a) fits code tell m ws same none room line f = calculates y place (operations.Copy r a) fits code tell ws none room line f m same
+  step y place (operations.Load r t b offset) fits code tell m ws same none room line f = calculates y place (operations.Load r t b offset) fits code tell ws none room line f m same
+  step y place (operations.Store b offset count a) fits code tell m ws same none room line f = calculates y place (operations.Store b offset count a) fits code tell ws none room line f m same
+  step y place (operations.Clear b size) fits code tell m ws same none room line f = calculates y place (operations.Clear b size) fits code tell ws none room line f m same
+  step y place (operations.CopyBytes into to from offset count) fits code tell m ws same none room line f = calculates y place (operations.CopyBytes into to from offset count) fits code tell ws none room line f m same
+  step y place (operations.Convert r t u a) fits code tell m ws same none room line f = calculates y place (operations.Convert r t u a) fits code tell ws none room line f m same
+  step y place (operations.Sign r op t a) fits code tell m ws same none room line f = calculates y place (operations.Sign r op t a) fits code tell ws none room line f m same
+  step y place (operations.Arithmetic r op t u a b) fits code tell m ws same none room line f = calculates y place (operations.Arithmetic r op t u a b) fits code tell ws none room line f m same
+  step y place (operations.Compare r op t a b) fits code tell m ws same none room line f = calculates y place (operations.Compare r op t a b) fits code tell ws none room line f m same
+  step y place (operations.IsZero r a) fits code tell m ws same none room line f = calculates y place (operations.IsZero r a) fits code tell ws none room line f m same
+  step y place (operations.Skip n) fits code tell m ws same none room line f = fits_lower y (y + 0) _ _ (omega arith) (goes (y + 0) (suc place) code tell ws none room n m same)
+  step y place (operations.SkipIfZero a n) fits code tell m ws same none room line f = fits_lower y (y + 0) _ _ (omega arith) (jumps (y + 0) (suc place) code tell ws none room (register m a == 0) n m same)
+  step y place (operations.Check c) fits code tell m ws same none room line f = fits_lower y (y + 0) _ _ (omega arith) (breaks_or (y + 0) (suc place) code tell ws none room (check_class c m) line f m same)
+  step y place (operations.Assert a) fits code tell m ws same none room line f = fits_lower y (y + 0) _ _ (omega arith) (ends_or (y + 0) (suc place) code tell ws none room (register m a == 0) (Broken classes.Assertion line f) m tt same)
+  step y place (operations.Assume a) fits code tell m ws same none room line f = fits_lower y (y + 0) _ _ (omega arith) (ends_or (y + 0) (suc place) code tell ws none room (register m a == 0) Blocked m tt same)
+  step y place (operations.Draw r bits) fits code tell m ws same none room line f = asks_one y place (operations.Draw r bits) fits code tell ws none room line f m refl refl same
+  step y place (operations.ReadObject b to k offset count) fits code tell m ws same none room line f = asks_one y place (operations.ReadObject b to k offset count) fits code tell ws none room line f m refl refl same
+  step y place (operations.WriteObject k offset b from count) fits code tell m ws same none room line f = asks_one y place (operations.WriteObject k offset b from count) fits code tell ws none room line f m refl refl same
+  step y place operations.Exit fits code tell m ws same none room line f = fits_ask y actions.Exit line f (λ a v. stops (Ended (word_64 0))) (λ a. final (Ended (word_64 0))) (λ a shape. fits_end (y + 0) (Ended (word_64 0)) tt)
+  step y place (operations.Fail class) fits code tell m ws same none room line f = fits_end y (Broken class line f) tt
+  step y place (operations.Use a) fits code tell m ws same none room line f = calculates y place (operations.Use a) fits code tell ws none room line f m same
+  step y place (operations.Call g first count into r) fits code tell m ws same none room line f = fits_end y Blocked tt
+  step y place (operations.Return u) fits code tell m ws same none room line f = fits_end y Blocked tt
+  step y place (operations.Move r p i t k size class) fits code tell m ws same none room line f = calculates y place (operations.Move r p i t k size class) fits code tell ws none room line f m same
+  step y place (operations.Offset r p count) fits code tell m ws same none room line f = calculates y place (operations.Offset r p count) fits code tell ws none room line f m same
+  step y place (operations.Same p q) fits code tell m ws same none room line f = calculates y place (operations.Same p q) fits code tell ws none room line f m same
+  step y place (operations.Distance r p q k) fits code tell m ws same none room line f = calculates y place (operations.Distance r p q k) fits code tell ws none room line f m same
+  step y place (operations.Relate r op p q) fits code tell m ws same none room line f = calculates y place (operations.Relate r op p q) fits code tell ws none room line f m same
+  step y place (operations.Take b to from p count whole) fits code tell m ws same none room line f = calculates y place (operations.Take b to from p count whole) fits code tell ws none room line f m same
+  step y place (operations.Put b p from to count whole) fits code tell m ws same none room line f = calculates y place (operations.Put b p from to count whole) fits code tell ws none room line f m same
+  step y place (operations.Read b to p count) fits code tell m ws same none room line f = asks_one y place (operations.Read b to p count) fits code tell ws none room line f m refl refl same
+  step y place (operations.Write p b from count first) fits code tell m ws same none room line f = asks_one y place (operations.Write p b from count first) fits code tell ws none room line f m refl refl same
+  step y place (operations.Look r p subscript) fits code tell m ws same none room line f = asks_one y place (operations.Look r p subscript) fits code tell ws none room line f m refl refl same
+  step y place (operations.Fill b r) fits code tell m ws same none room line f =
+      let size = first_count m b r in
+      let there = (both (nat_lt b (length blocks)) (is_pointer registers r) fits.1).0 in
+      let words : word_count size - 0 ≡ word_count size = omega arith in
+      subst (λ n. Fits y (λ v. read (drawn v line f (word_count size) size 0 y ++ told v blocks (y + word_count (slice_index blocks b)) code (arrived 0 (Some (drawn_into v b (word_count size) size 0 y m)) ws)) end) (fills behaving n place line f b size (8 * 0) (places behaving false (suc place) code) m)) (sym words)
+      (draws (y + word_count (slice_index blocks b)) (suc place) code tell ws none room place line f b size (word_count size) 0 y m (omega (arith, sized_block blocks m b same)) (omega arith) (omega (arith, sized_block blocks m b same)) there same)
+  step y place (operations.Alloc r b size readonly heap) fits code tell m ws same none room line f = asks_one y place (operations.Alloc r b size readonly heap) fits code tell ws none room line f m refl refl same
+  step y place (operations.Die p) fits code tell m ws same none room line f = asks_one y place (operations.Die p) fits code tell ws none room line f m refl refl same
+  step y place (operations.Free p) fits code tell m ws same none room line f = asks_one y place (operations.Free p) fits code tell ws none room line f m refl refl same
+  step y place (operations.MayFail r) fits code tell m ws same none room line f = fits_end y Blocked tt
+  step y place (operations.Limit a b) fits code tell m ws same none room line f = fits_end y Blocked tt
 
   -- ---- all of it
 
-  pub tells_all : (code : List Instruction) (place : ℕ) → is_static_code code ≡ true → Tells place code
-  tells_all [] place static ws single room = sym (remaining_none ws)
-  tells_all (i ∷ code) place static [] single room = absurd (omega (arith, room))
-  tells_all (i ∷ code) place static (None ∷ ws) single room =
-      let all = both (is_static i.operation) (is_static_code code) static in
-      ap (λ xs. read (told v apart (suc place) code xs) end) (leaves_none place i.operation ws) ∙ tells_all code (suc place) all.1 ws single (omega (arith, room))
-  tells_all (i ∷ code) place static (Some m ∷ ws) single room =
-      let all = both (is_static i.operation) (is_static_code code) static in
-      step (suc place) code (tells_all code (suc place) all.1) m ws single (omega (arith, room)) i.line i.function place i.operation all.0
+  pub tells_all : (x place : ℕ) (code : List Instruction) → code_fits registers blocks code ≡ true → TellsFrom x place code
+  tells_all x place [] fits n m ws same none room = fits_end x (Ended (word_64 0)) tt
+  tells_all x place (i ∷ code) fits n m [] same none room = absurd (omega (arith, room))
+  tells_all x place (i ∷ code) fits n m (Some u ∷ ws) same none room = absurd none
+  tells_all x place (i ∷ code) fits zero m (None ∷ ws) same none room =
+      let parts = both (operation_fits registers blocks (length code) i.operation) (code_fits registers blocks code) fits in
+      step x place i.operation (length code, parts.0) code (tells_all (x + variables_of blocks i.operation) (suc place) code parts.1) m ws same none (omega (arith, room)) i.line i.function
+  tells_all x place (i ∷ code) fits (suc n) m (None ∷ ws) same none room =
+      let parts = both (operation_fits registers blocks (length code) i.operation) (code_fits registers blocks code) fits in
+      let y = x + variables_of blocks i.operation in
+      fits_lower x y _ _ (omega arith)
+      (fits_same y (λ v. read (told v blocks y code (arrived n (Some m) ws)) end) _ _ (λ v. ap (λ xs. read (told v blocks y code xs) end) (leaves_none v x i.operation (arrived n (Some m) ws)))
+      (tells_all y (suc place) code parts.1 n m ws same none (omega (arith, room))))

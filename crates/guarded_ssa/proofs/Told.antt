@@ -1,12 +1,11 @@
 -- What is read off what happens in the run of one thread.
-use Rattle.std.proofs.Common.{◌≡◌, ℕ, zero, suc, Bool, true, false, List, [], ◌∷◌, Option, Some, None, refl, sym, ◌∙◌, ap, arith, true≢false}
+use Rattle.std.proofs.Common.{◌≡◌, ℕ, zero, suc, true, false, List, [], ◌∷◌, Some, None, refl, sym, ◌∙◌, ap, arith, true≢false}
 use Rattle.std.specs.Prelude.{nat_lt, ◌==◌, if◌then◌else◌}
 use Rattle.std.proofs.lemmas.Bool.Decides.{nat_tests}
 use Rattle.words.specs.declared.check.Check.{Check}
-use Rattle.actions.specs.declared.action.Answer.{Answer}
 use Rattle.actions.specs.declared.action.Next.{Next}
 use Rattle.actions.specs.declared.action.Next.TheVariants.{Act, Ended, Blocked, Broken}
-use Rattle.interleave.specs.Inputs.{InputLists, words_of}
+use Rattle.interleave.specs.Inputs.{words_of}
 use Rattle.guarded_ssa.specs.Runs.{Run, stops, asks}
 use Rattle.guarded_ssa.specs.Happenings.{schedule_in, words_given, words_drawn, AreDrawn, check_in}
 use Rattle.guarded_ssa.specs.Turns.{is_break, breaks, drawn_words, inputs_for, turns, end_check, broken_check, end_happens, happenings}

@@ -1,5 +1,5 @@
 -- A pass over all of the code.
-use Rattle.std.proofs.Common.{◌≡◌, ℕ, zero, suc, ◌+◌, ◌<◌, ◌≤◌, true, false, List, [], ◌∷◌, ◌++◌, length, drop, get_or, Option, Some, None, refl, sym, ap, subst, ◌∙◌, arith, append_assoc}
+use Rattle.std.proofs.Common.{◌≡◌, ℕ, zero, suc, ◌+◌, ◌^◌, ◌<◌, ◌≤◌, true, false, List, [], ◌∷◌, ◌++◌, length, drop, get_or, Option, Some, None, refl, sym, ap, subst, ◌∙◌, arith, append_assoc}
 use Rattle.std.specs.Prelude.{replicate}
 use Rattle.std.specs.Prelude.{slice_get}
 use Rattle.std.specs.List.{All}
@@ -8,14 +8,15 @@ use Rattle.std.proofs.lemmas.List.{length-map}
 use Rattle.std.proofs.lemmas.Option.{slice_get-get_or}
 use Rattle.goto_prog.specs.Fitting.{code_fits, operation_fits}
 use Rattle.goto_prog.proofs.Stepping.{fits_at}
-use Rattle.std.proofs.lemmas.List.Elements.{All-head, All-tail, All-same}
+use Rattle.std.proofs.lemmas.List.Elements.{All-head, All-tail, All-same, All-cons, All-nil}
 use Rattle.actions.specs.Behaviour.{word_64}
 use Rattle.actions.specs.declared.action.Next.TheVariants.{Ended}
 use Rattle.word_dag.specs.declared.nodes.Node.{Node}
 use Rattle.goto_prog.specs.declared.code.Instruction.{Instruction}
 use Rattle.goto_prog.specs.Static.{is_static, is_static_code}
 use Rattle.goto_prog.proofs.Registers.{both}
-use Rattle.goto_prog.specs.Meaning.{Memory, does, places}
+use Rattle.goto_prog.specs.Meaning.{Memory, does}
+use Rattle.c_types.specs.declared.integers.IntegerType.{IntegerType}
 use Rattle.goto_prog.specs.Threads.{behaving}
 use Rattle.cell_trees.specs.Trees.{Arena}
 use Rattle.goto_prog.specs.CodeThread.{Listing, first_memory}
@@ -23,45 +24,50 @@ use Rattle.guarded_ssa.specs.declared.forms.Event.{Event}
 use Rattle.guarded_ssa.specs.declared.slots.Slot.{Slot}
 use Rattle.guarded_ssa.specs.declared.pass.Pass.{Pass}
 use Rattle.guarded_ssa.specs.Runs.{stops}
-use Rattle.guarded_ssa.specs.inner.Answers.{running}
+use Rattle.guarded_ssa.specs.inner.Answers.{variables_of}
 use Rattle.guarded_ssa.specs.Arrivals.{read}
-use Rattle.guarded_ssa.specs.inner.Places.{Arrivals, on, tells, told}
+use Rattle.guarded_ssa.specs.inner.Places.{Arrivals, arrived, on, tells, told}
 use Rattle.actions.specs.Objects.{Objects}
-use Rattle.guarded_ssa.specs.Forms.{Form, FormIn, IsForm, AreForms, seen}
+use Rattle.guarded_ssa.specs.Forms.{Form, FormIn, IsForm, AreForms, AreStatic, AreStaticForms, run_read, seen}
 use Rattle.guarded_ssa.specs.inner.Reads.{Covers}
 use Rattle.guarded_ssa.specs.inner.Held.{SlotIn, PendingIn, PassIn, Passes, Visits, guarded, arrival, arrivals}
-use Rattle.guarded_ssa.proofs.Telling.{Nowhere, remaining, leaves_none, tells_all}
+use Rattle.guarded_ssa.proofs.Telling.{Nowhere, leaves_none, tells_all}
+use Rattle.guarded_ssa.proofs.Sizes.{Sized}
 use Rattle.guarded_ssa.proofs.Needs.{told_step}
-use Rattle.guarded_ssa.proofs.Valuations.{is_form}
+use Rattle.guarded_ssa.proofs.Valuations.{Fits, fits_same}
 use Rattle.guarded_ssa.proofs.Passing.{append_nil}
 
 -- a place that is reached with a slot
-pub visits_slot : (until : List ℕ) (code : Listing) (place : ℕ) (i : Instruction) (d e : List Node) (p p1 q : Pass) (s : Slot) → p.pending.items ≡ Some s ∷ p1.pending.items → p1.events.items ≡ p.events.items → p1.trees ≡ p.trees
-    → Passes until code place i.line i.function i.operation s d e p1 q → Visits until code place i d e p q
-visits_slot until code place i d e p p1 q s pending events trees passes = record {
+pub visits_slot : (until : List ℕ) (code : Listing) (place variable : ℕ) (i : Instruction) (d e : List Node) (p p1 q : Pass) (s : Slot) → p.pending.items ≡ Some s ∷ p1.pending.items → p1.events.items ≡ p.events.items → p1.trees ≡ p.trees
+    → Passes until code place variable i.line i.function i.operation s d e p1 q → Visits until code place variable i d e p q
+visits_slot until code place variable i d e p p1 q s pending events trees passes = record {
   within = passes.within;
   size = ap suc passes.size ∙ ap length (sym pending);
-  goes = λ v rest static covers.
+  static = λ static all. passes.static static (subst (AreStatic d) (sym events) all);
+  goes = λ v rest covers.
       let w = guarded v d p1.trees code s in
       let ws = arrivals v d p1.trees code p1.pending.items in
       let xs = arrivals v e q.trees code q.pending.items in
+      let next = variable + variables_of code.blocks i.operation in
       let before = seen v d p1.events.items in
-      let told_here = on w (tells v (length code.instructions) place i.line i.function i.operation) in
-      let step : told_here ++ told v (length code.instructions) (suc place) rest xs ≡ told v (length code.instructions) place (i ∷ rest) (w ∷ ws) = told_step (length code.registers) until v (length code.instructions) place i rest w ws xs (both (is_static i.operation) (is_static_code rest) static).1 covers (passes.leads v) in
-      ap (λ ys. ys ++ told v (length code.instructions) (suc place) rest xs) (passes.told v) ∙ append_assoc before told_here (told v (length code.instructions) (suc place) rest xs) ∙ ap (λ ys. before ++ ys) step
-      ∙ (let a = ap (seen v d) events in let b : told v (length code.instructions) place (i ∷ rest) (w ∷ ws) ≡ told v (length code.instructions) place (i ∷ rest) (arrivals v d p.trees code p.pending.items) = (λ k. told v (length code.instructions) place (i ∷ rest) (arrivals v d (trees k) code (sym pending k))) in λ k. a k ++ b k);
+      let told_here = on w (tells v variable i.line i.function i.operation) in
+      let step : told_here ++ told v code.blocks next rest xs ≡ told v code.blocks variable (i ∷ rest) (w ∷ ws) = told_step (length code.registers) until v code.blocks place variable i rest w ws xs covers (passes.leads v) in
+      ap (λ ys. ys ++ told v code.blocks next rest xs) (passes.told v) ∙ append_assoc before told_here (told v code.blocks next rest xs) ∙ ap (λ ys. before ++ ys) step
+      ∙ (let a = ap (seen v d) events in let b : told v code.blocks variable (i ∷ rest) (w ∷ ws) ≡ told v code.blocks variable (i ∷ rest) (arrivals v d p.trees code p.pending.items) = (λ k. told v code.blocks variable (i ∷ rest) (arrivals v d (trees k) code (sym pending k))) in λ k. a k ++ b k);
 }
 
 -- one that isn't
-pub visits_none : (until : List ℕ) (code : Listing) (place : ℕ) (i : Instruction) (d : List Node) (p q : Pass) → PassIn d code q → p.pending.items ≡ None ∷ q.pending.items → q.events.items ≡ p.events.items → q.trees ≡ p.trees → Visits until code place i d d p q
-visits_none until code place i d p q within pending events trees = record {
+pub visits_none : (until : List ℕ) (code : Listing) (place variable : ℕ) (i : Instruction) (d : List Node) (p q : Pass) → PassIn d code q → p.pending.items ≡ None ∷ q.pending.items → q.events.items ≡ p.events.items → q.trees ≡ p.trees → Visits until code place variable i d d p q
+visits_none until code place variable i d p q within pending events trees = record {
   within = within;
   size = ap length (sym pending);
-  goes = λ v rest static covers.
+  static = λ static all. subst (AreStatic d) (sym events) all;
+  goes = λ v rest covers.
       let ws = arrivals v d q.trees code q.pending.items in
+      let next = variable + variables_of code.blocks i.operation in
       let a = ap (seen v d) events in
-      let b : told v (length code.instructions) (suc place) rest ws ≡ told v (length code.instructions) place (i ∷ rest) (None ∷ ws) = ap (told v (length code.instructions) (suc place) rest) (sym (leaves_none v (length code.instructions) place i.operation ws)) in
-      let c : told v (length code.instructions) place (i ∷ rest) (None ∷ ws) ≡ told v (length code.instructions) place (i ∷ rest) (arrivals v d p.trees code p.pending.items) = (λ k. told v (length code.instructions) place (i ∷ rest) (arrivals v d (trees k) code (sym pending k))) in
+      let b : told v code.blocks next rest ws ≡ told v code.blocks variable (i ∷ rest) (None ∷ ws) = ap (told v code.blocks next rest) (sym (leaves_none v variable i.operation ws)) in
+      let c : told v code.blocks variable (i ∷ rest) (None ∷ ws) ≡ told v code.blocks variable (i ∷ rest) (arrivals v d p.trees code p.pending.items) = (λ k. told v code.blocks variable (i ∷ rest) (arrivals v d (trees k) code (sym pending k))) in
       λ k. a k ++ ((b ∙ c) k);
 }
 
@@ -78,12 +84,41 @@ popped_first d code p q s within pending =
 
 -- ---- all of it
 
--- code without operations on pointers has none from a place on, and none at it
-static_drop : (k : ℕ) (code : List Instruction) → is_static_code code ≡ true → is_static_code (drop k code) ≡ true
-static_drop zero code static = static
-static_drop (suc k) [] static = refl
-static_drop (suc k) (i ∷ code) static = static_drop k code (both (is_static i.operation) (is_static_code code) static).1
+covers_drop : (registers : ℕ) (until : List ℕ) (p k q : ℕ) (code : List Instruction) → q ≡ p + k → Covers registers until p code → Covers registers until q (drop k code)
+covers_drop registers until p zero q code e h = (let f : q ≡ p = omega (arith, e) in subst (λ n. Covers registers until n code) (sym f) h)
+covers_drop registers until p (suc k) q [] e h = tt
+covers_drop registers until p (suc k) q (i ∷ code) e h = covers_drop registers until (suc p) k q code (omega (arith, e)) h.1
 
+pub visited : (until : List ℕ) (code : Listing) (place variable next : ℕ) (z : Instruction) (all : (ℕ → ℕ) → Arrivals) (d e : List Node) (p q : Pass) → place < length code.instructions → next ≡ variable + variables_of code.blocks (get_or code.instructions place z).operation → Covers (length code.registers) until 0 code.instructions
+    → Visits until code place variable (get_or code.instructions place z) d e p q
+    → ((v : ℕ → ℕ) → seen v d p.events.items ++ told v code.blocks variable (drop place code.instructions) (arrivals v d p.trees code p.pending.items) ≡ told v code.blocks 0 code.instructions (all v))
+    → (v : ℕ → ℕ) → seen v e q.events.items ++ told v code.blocks next (drop (place + 1) code.instructions) (arrivals v e q.trees code q.pending.items) ≡ told v code.blocks 0 code.instructions (all v)
+visited until code place variable next z all d e p q lt next_is covers visits so v =
+    let i = get_or code.instructions place z in
+    let rest = drop (suc place) code.instructions in
+    let n : place + 1 ≡ suc place = omega arith in
+    let front : drop place code.instructions ≡ i ∷ rest = drop-cons code.instructions place z lt in
+    (λ k. seen v e q.events.items ++ told v code.blocks (next_is k) (drop (n k) code.instructions) (arrivals v e q.trees code q.pending.items))
+    ∙ visits.goes v rest (covers_drop (length code.registers) until 0 (suc place) (suc place) code.instructions (omega arith) covers)
+    ∙ ap (λ xs. seen v d p.events.items ++ told v code.blocks variable xs (arrivals v d p.trees code p.pending.items)) (sym front) ∙ so v
+
+drop_all : (n : ℕ) (xs : List Instruction) → length xs ≤ n → drop n xs ≡ []
+drop_all zero [] l = refl
+drop_all zero (x ∷ xs) l = absurd (omega (arith, l))
+drop_all (suc n) [] l = refl
+drop_all (suc n) (x ∷ xs) l = drop_all n xs (omega (arith, l))
+
+pub visited_all : (code : Listing) (place variable : ℕ) (all : (ℕ → ℕ) → Arrivals) (d : List Node) (p : Pass) → length code.instructions ≤ place
+    → ((v : ℕ → ℕ) → seen v d p.events.items ++ told v code.blocks variable (drop place code.instructions) (arrivals v d p.trees code p.pending.items) ≡ told v code.blocks 0 code.instructions (all v))
+    → (v : ℕ → ℕ) → seen v d p.events.items ≡ told v code.blocks 0 code.instructions (all v)
+visited_all code place variable all d p le so v =
+    sym (ap (λ xs. seen v d p.events.items ++ told v code.blocks variable xs (arrivals v d p.trees code p.pending.items)) (drop_all place code.instructions le) ∙ append_nil (seen v d p.events.items)) ∙ so v
+
+pub visited_none : (code : Listing) (all : (ℕ → ℕ) → Arrivals) (d : List Node) (p : Pass) → p.events.items ≡ [] → ((v : ℕ → ℕ) → arrivals v d p.trees code p.pending.items ≡ all v)
+    → (v : ℕ → ℕ) → seen v d p.events.items ++ told v code.blocks 0 code.instructions (arrivals v d p.trees code p.pending.items) ≡ told v code.blocks 0 code.instructions (all v)
+visited_none code all d p none same v = let a = ap (seen v d) none in let b = same v in λ i. a i ++ told v code.blocks 0 code.instructions (b i)
+
+-- code without operations on pointers has none at a place
 pub static_in : (code : Listing) (is : List Instruction) (place : ℕ) (z : Instruction) → is ≡ code.instructions → is_static_code code.instructions ≡ true → place < length is → is_static (get_or is place z).operation ≡ true
 static_in code is place z same static lt =
     subst (λ (xs : List Instruction). is_static (get_or xs place z).operation ≡ true) (sym same) (there place code.instructions static (subst (λ (xs : List Instruction). place < length xs) same lt))
@@ -92,40 +127,6 @@ static_in code is place z same static lt =
     there k [] all less = absurd (omega (arith, less))
     there zero (x ∷ xs) all less = (both (is_static x.operation) (is_static_code xs) all).0
     there (suc k) (x ∷ xs) all less = there k xs (both (is_static x.operation) (is_static_code xs) all).1 (omega (arith, less))
-
-covers_drop : (registers : ℕ) (until : List ℕ) (p k q : ℕ) (code : List Instruction) → q ≡ p + k → Covers registers until p code → Covers registers until q (drop k code)
-covers_drop registers until p zero q code e h = (let f : q ≡ p = omega (arith, e) in subst (λ n. Covers registers until n code) (sym f) h)
-covers_drop registers until p (suc k) q [] e h = tt
-covers_drop registers until p (suc k) q (i ∷ code) e h = covers_drop registers until (suc p) k q code (omega (arith, e)) h.1
-
-pub visited : (until : List ℕ) (code : Listing) (place : ℕ) (z : Instruction) (all : (ℕ → ℕ) → Arrivals) (d e : List Node) (p q : Pass) → place < length code.instructions → is_static_code code.instructions ≡ true → Covers (length code.registers) until 0 code.instructions
-    → Visits until code place (get_or code.instructions place z) d e p q
-    → ((v : ℕ → ℕ) → seen v d p.events.items ++ told v (length code.instructions) place (drop place code.instructions) (arrivals v d p.trees code p.pending.items) ≡ told v (length code.instructions) 0 code.instructions (all v))
-    → (v : ℕ → ℕ) → seen v e q.events.items ++ told v (length code.instructions) (place + 1) (drop (place + 1) code.instructions) (arrivals v e q.trees code q.pending.items) ≡ told v (length code.instructions) 0 code.instructions (all v)
-visited until code place z all d e p q lt static covers visits so v =
-    let i = get_or code.instructions place z in
-    let rest = drop (suc place) code.instructions in
-    let n : place + 1 ≡ suc place = omega arith in
-    let front : drop place code.instructions ≡ i ∷ rest = drop-cons code.instructions place z lt in
-    ap (λ m. seen v e q.events.items ++ told v (length code.instructions) m (drop m code.instructions) (arrivals v e q.trees code q.pending.items)) n
-    ∙ visits.goes v rest (subst (λ (xs : List Instruction). is_static_code xs ≡ true) front (static_drop place code.instructions static)) (covers_drop (length code.registers) until 0 (suc place) (suc place) code.instructions (omega arith) covers)
-    ∙ ap (λ xs. seen v d p.events.items ++ told v (length code.instructions) place xs (arrivals v d p.trees code p.pending.items)) (sym front) ∙ so v
-
-drop_all : (n : ℕ) (xs : List Instruction) → length xs ≤ n → drop n xs ≡ []
-drop_all zero [] l = refl
-drop_all zero (x ∷ xs) l = absurd (omega (arith, l))
-drop_all (suc n) [] l = refl
-drop_all (suc n) (x ∷ xs) l = drop_all n xs (omega (arith, l))
-
-pub visited_all : (code : Listing) (place : ℕ) (all : (ℕ → ℕ) → Arrivals) (d : List Node) (p : Pass) → length code.instructions ≤ place
-    → ((v : ℕ → ℕ) → seen v d p.events.items ++ told v (length code.instructions) place (drop place code.instructions) (arrivals v d p.trees code p.pending.items) ≡ told v (length code.instructions) 0 code.instructions (all v))
-    → (v : ℕ → ℕ) → seen v d p.events.items ≡ told v (length code.instructions) 0 code.instructions (all v)
-visited_all code place all d p le so v =
-    sym (ap (λ xs. seen v d p.events.items ++ told v (length code.instructions) place xs (arrivals v d p.trees code p.pending.items)) (drop_all place code.instructions le) ∙ append_nil (seen v d p.events.items)) ∙ so v
-
-pub visited_none : (code : Listing) (all : (ℕ → ℕ) → Arrivals) (d : List Node) (p : Pass) → p.events.items ≡ [] → ((v : ℕ → ℕ) → arrivals v d p.trees code p.pending.items ≡ all v)
-    → (v : ℕ → ℕ) → seen v d p.events.items ++ told v (length code.instructions) 0 code.instructions (arrivals v d p.trees code p.pending.items) ≡ told v (length code.instructions) 0 code.instructions (all v)
-visited_none code all d p none same v = let a = ap (seen v d) none in let b = same v in λ i. a i ++ told v (length code.instructions) 0 code.instructions (b i)
 
 -- ---- the form
 
@@ -137,19 +138,25 @@ length_none : (n : ℕ) → length (replicate {A = Option Memory} n None) ≡ n
 length_none zero = refl
 length_none (suc n) = ap suc (length_none n)
 
-first_run : (v : ℕ → ℕ) (apart : ℕ) (code : List Instruction) (m : Memory) (ws : Arrivals) → remaining (Some m ∷ ws) (places (running v apart) false 0 code) ≡ does (running v apart) false 0 code m
-first_run v apart [] m ws = refl
-first_run v apart (i ∷ code) m ws = refl
+-- a memory that arrives where none is reached
+first_none : (n : ℕ) (m : Memory) → arrived 0 (Some m) (None ∷ replicate n None) ≡ Some m ∷ replicate n None
+first_none n m = refl
 
-pub form_of : (d : List Node) (es : List Event) (code : List Instruction) (m : Memory) → is_static_code code ≡ true → ((v : ℕ → ℕ) → seen v d es ≡ told v (length code) 0 code (Some m ∷ replicate (length code) None)) → IsForm (does behaving false 0 code m) d es
-form_of d es code m static same =
-    is_form d es code m static (λ v.
-    let ws = Some m ∷ replicate (length code) None in
-    ap (λ xs. read xs (stops (Ended (word_64 0)))) (same v) ∙ tells_all v (length code) code 0 static ws (nowhere_none (length code)) (omega (arith, length_none (length code))) ∙ first_run v (length code) code m (replicate (length code) None))
+pub form_of : (registers : List IntegerType) (blocks : List ℕ) (d : List Node) (es : List Event) (code : List Instruction) (m : Memory) → code_fits registers blocks code ≡ true → Sized blocks m
+    → ((v : ℕ → ℕ) → seen v d es ≡ told v blocks 0 code (Some m ∷ replicate (length code) None)) → IsForm (does behaving false 0 code m) d es
+form_of registers blocks d es code m fits sized same =
+    let ws : Arrivals = None ∷ replicate (length code) None in
+    let whole = tells_all registers blocks 0 0 code fits 0 m ws sized (nowhere_none (length code)) (omega (arith, length_none (length code))) in
+    let one : Fits 0 (λ v. run_read v d es) (does behaving false 0 code m) = fits_same 0 (λ v. read (told v blocks 0 code (arrived 0 (Some m) ws)) (stops (Ended (word_64 0)))) (λ v. run_read v d es) _ (λ v. ap (λ xs. read xs (stops (Ended (word_64 0)))) (same v)) whole in
+    record { gives = one.gives; has = one.has }
 
-pub one_form : (d : List Node) (g : List Form) (es : List Event) (objects : Objects) (code : Listing) (m : Memory) → is_static_code code.instructions ≡ true → g ≡ record { events = es; store = objects } ∷ [] → FormIn d es
-    → ((v : ℕ → ℕ) → seen v d es ≡ told v (length code.instructions) 0 code.instructions (Some m ∷ replicate (length code.instructions) None)) → AreForms (does behaving false 0 code.instructions m) objects d g
-one_form d g es objects code m static is within same = subst (AreForms (does behaving false 0 code.instructions m) objects d) (sym is) (form_of d es code.instructions m static same, within, refl)
+pub one_form : (d : List Node) (g : List Form) (es : List Event) (objects : Objects) (code : Listing) (m : Memory) → code_fits code.registers code.blocks code.instructions ≡ true → Sized code.blocks m → g ≡ record { events = es; store = objects } ∷ [] → FormIn d es
+    → ((v : ℕ → ℕ) → seen v d es ≡ told v code.blocks 0 code.instructions (Some m ∷ replicate (length code.instructions) None)) → AreForms (does behaving false 0 code.instructions m) objects d g
+one_form d g es objects code m fits sized is within same =
+    subst (AreForms (does behaving false 0 code.instructions m) objects d) (sym is) (form_of code.registers code.blocks d es code.instructions m fits sized same, within, refl)
+
+pub one_static : (d : List Node) (g : List Form) (es : List Event) (objects : Objects) → g ≡ record { events = es; store = objects } ∷ [] → AreStatic d es → AreStaticForms d g
+one_static d g es objects is all = subst (AreStaticForms d) (sym is) (All-cons (λ (f : Form). AreStatic d f.events) (record { events = es; store = objects }) [] all (All-nil (λ (f : Form). AreStatic d f.events)))
 
 -- at the start of the code that a plan is of
 pub started : (own code : Listing) (d : List Node) (p : Pass) → own ≡ code → PassIn d own p → ((v : ℕ → ℕ) → arrivals v d p.trees own p.pending.items ≡ Some (first_memory own) ∷ replicate (length own.instructions) None)
@@ -170,7 +177,18 @@ fits_in code own is place z same same_is fits lt =
     let found : slice_get code.instructions place ≡ Some (get_or is place z) = slice_get-get_or code.instructions place z there ∙ ap (λ (xs : List Instruction). Some (get_or xs place z)) (sym same_is) in
     subst Fits (sym same) (fits_at code.registers code.blocks code.instructions place (get_or is place z) fits found)
 
-pub visits_own : (until : List ℕ) (code own : Listing) (is : List Instruction) (place : ℕ) (z : Instruction) (d e : List Node) (p q : Pass) → own ≡ code → is ≡ code.instructions → Visits until own place (get_or is place z) d e p q
-    → Visits until code place (get_or code.instructions place z) d e p q
-visits_own until code own is place z d e p q same same_is visits =
-    subst (λ (xs : List Instruction). Visits until code place (get_or xs place z) d e p q) same_is (subst (λ k. Visits until k place (get_or is place z) d e p q) same visits)
+pub visits_own : (until : List ℕ) (code own : Listing) (is : List Instruction) (place variable : ℕ) (z : Instruction) (d e : List Node) (p q : Pass) → own ≡ code → is ≡ code.instructions → Visits until own place variable (get_or is place z) d e p q
+    → Visits until code place variable (get_or code.instructions place z) d e p q
+visits_own until code own is place variable z d e p q same same_is visits =
+    subst (λ (xs : List Instruction). Visits until code place variable (get_or xs place z) d e p q) same_is (subst (λ k. Visits until k place variable (get_or is place z) d e p q) same visits)
+
+-- the variables of the plan's code are those of the code
+pub variables_own : (code own : Listing) (blocks : List ℕ) (is : List Instruction) (place variable n next : ℕ) (z : Instruction) → own ≡ code → blocks ≡ code.blocks → n ≡ variables_of blocks (get_or is place z).operation → next ≡ variable + n → next ≤ 2 ^ 32
+    → variable + variables_of own.blocks (get_or is place z).operation ≤ 2 ^ 32
+variables_own code own blocks is place variable n next z same blocks_are n_is next_is few =
+    let o = (get_or is place z).operation in
+    subst (λ (bs : List ℕ). variable + variables_of bs o ≤ 2 ^ 32) (blocks_are ∙ sym (ap (λ (k : Listing). k.blocks) same)) (omega (arith, n_is, next_is, few))
+
+pub variables_next : (code : Listing) (blocks : List ℕ) (is : List Instruction) (place variable n next : ℕ) (z : Instruction) → blocks ≡ code.blocks → is ≡ code.instructions → n ≡ variables_of blocks (get_or is place z).operation → next ≡ variable + n
+    → next ≡ variable + variables_of code.blocks (get_or code.instructions place z).operation
+variables_next code blocks is place variable n next z same same_is n_is next_is = next_is ∙ ap (λ k. variable + k) n_is ∙ (λ i. variable + variables_of (same i) (get_or (same_is i) place z).operation)

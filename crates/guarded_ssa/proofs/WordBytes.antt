@@ -49,7 +49,7 @@ take_bytes i zero n x h = refl
 take_bytes i (suc k) zero x h = absurd (omega (arith, h))
 take_bytes i (suc k) (suc n) x h = ap (λ bs. byte_at i x ∷ bs) (take_bytes (suc i) k n x (omega (arith, h)))
 
-low_bytes_of_low : (m x : ℕ) → m ≤ 8 → low_bytes m (low_bits (8 * m) x) ≡ low_bytes m x
+pub low_bytes_of_low : (m x : ℕ) → m ≤ 8 → low_bytes m (low_bits (8 * m) x) ≡ low_bytes m x
 low_bytes_of_low m x h = take_bytes 0 m 8 (low_bits (8 * m) x) h ∙ bytes_of_low 0 m m x (omega arith) ∙ sym (take_bytes 0 m 8 x h)
 
 -- ---- the number that at most 8 bytes are
@@ -110,13 +110,13 @@ words_are_bytes left (w ∷ ws) =
     let rest = bytes_of_words (left - 8) ws in
     list_all-append (λ b. nat_lt b 256) first rest ∙ both_true (are_bytes first) (are_bytes rest) (low_are_bytes (min 8 left) w (min-le_left 8 left)) (words_are_bytes (left - 8) ws)
 
-pub words_size : (v : ℕ → ℕ) (apart k x left : ℕ) → left ≤ 8 * k → length (bytes_of_words left (words_by v apart k x left)) ≡ left
-words_size v apart zero x left h = let none : 0 ≡ left = omega (arith, h) in none
-words_size v apart (suc k) x left h =
+pub words_size : (v : ℕ → ℕ) (k x left : ℕ) → left ≤ 8 * k → length (bytes_of_words left (words_by v k x left)) ≡ left
+words_size v zero x left h = let none : 0 ≡ left = omega (arith, h) in none
+words_size v (suc k) x left h =
     let first = low_bytes (min 8 left) (low_bits (8 * min 8 left) (v x)) in
-    let rest = bytes_of_words (left - 8) (words_by v apart k (x + apart) (left - 8)) in
+    let rest = bytes_of_words (left - 8) (words_by v k (suc x) (left - 8)) in
     let a = low_count (min 8 left) (low_bits (8 * min 8 left) (v x)) (min-le_left 8 left) in
-    let b = words_size v apart k (x + apart) (left - 8) (omega (arith, h)) in
+    let b = words_size v k (suc x) (left - 8) (omega (arith, h)) in
     length-append first rest ∙ (λ i. a i + b i) ∙ min_rest left
 
 pub words_enough : (n : ℕ) → n ≤ 8 * word_count n
@@ -124,37 +124,37 @@ words_enough n = let all : n ≤ 8 * ((n + 7) / 8) = omega arith in all
 
 -- ---- words by a valuation
 
-first_variable : (x apart : ℕ) → x + 0 * apart ≡ x
-first_variable x apart = omega arith
+first_variable : (x : ℕ) → x + 0 ≡ x
+first_variable x = omega arith
 
-next_variable : (x i apart : ℕ) → x + suc i * apart ≡ x + apart + i * apart
-next_variable x i apart = grind arith
+next_variable : (x i : ℕ) → x + suc i ≡ suc x + i
+next_variable x i = omega arith
 
-pub words_by_same : (v w : ℕ → ℕ) (apart k x left : ℕ) → ((i : ℕ) → v (x + i * apart) ≡ w (x + i * apart)) → words_by v apart k x left ≡ words_by w apart k x left
-words_by_same v w apart zero x left same = refl
-words_by_same v w apart (suc k) x left same =
-    let a : v x ≡ w x = subst (λ n. v n ≡ w n) (first_variable x apart) (same 0) in
-    let b = words_by_same v w apart k (x + apart) (left - 8) (λ i. subst (λ n. v n ≡ w n) (next_variable x i apart) (same (suc i))) in
+pub words_by_same : (v w : ℕ → ℕ) (k x left : ℕ) → ((i : ℕ) → v (x + i) ≡ w (x + i)) → words_by v k x left ≡ words_by w k x left
+words_by_same v w zero x left same = refl
+words_by_same v w (suc k) x left same =
+    let a : v x ≡ w x = subst (λ n. v n ≡ w n) (first_variable x) (same 0) in
+    let b = words_by_same v w k (suc x) (left - 8) (λ i. subst (λ n. v n ≡ w n) (next_variable x i) (same (suc i))) in
     λ j. low_bits (8 * min 8 left) (a j) ∷ b j
 
 all_bytes_of : (a b : List ℕ) → are_bytes (a ++ b) ≡ true → (are_bytes a ≡ true) × (are_bytes b ≡ true)
 all_bytes_of a b h = both (are_bytes a) (are_bytes b) (sym (list_all-append (λ n. nat_lt n 256) a b) ∙ h)
 
 -- words that are the bytes, 8 in each
-pub words_give : (v : ℕ → ℕ) (apart k x left : ℕ) (bs : List ℕ) → length bs ≡ left → left ≤ 8 * k → are_bytes bs ≡ true → ((i : ℕ) → v (x + i * apart) ≡ number_is (take 8 (drop (8 * i) bs))) → bytes_of_words left (words_by v apart k x left) ≡ bs
-words_give v apart zero x left bs size few all given = sym (nil_from_length bs (omega (arith, size, few)))
-words_give v apart (suc k) x left bs size few all given =
+pub words_give : (v : ℕ → ℕ) (k x left : ℕ) (bs : List ℕ) → length bs ≡ left → left ≤ 8 * k → are_bytes bs ≡ true → ((i : ℕ) → i < k → v (x + i) ≡ number_is (take 8 (drop (8 * i) bs))) → bytes_of_words left (words_by v k x left) ≡ bs
+words_give v zero x left bs size few all given = sym (nil_from_length bs (omega (arith, size, few)))
+words_give v (suc k) x left bs size few all given =
     let first = take 8 bs in
     let rest = drop 8 bs in
     let count : length first ≡ min 8 left = length-take 8 bs ∙ ap (min 8) size in
     let small : length first ≤ 8 = omega (arith, count, min-le_left 8 left) in
     let parts = all_bytes_of first rest (ap are_bytes (take-append-drop 8 bs) ∙ all) in
-    let here : v x ≡ number_is first = subst (λ m. v m ≡ number_is first) (first_variable x apart) (given 0) in
+    let here : v x ≡ number_is first = subst (λ m. v m ≡ number_is first) (first_variable x) (given 0 (omega arith)) in
     let a : low_bytes (min 8 left) (low_bits (8 * min 8 left) (v x)) ≡ first =
     low_bytes_of_low (min 8 left) (v x) (min-le_left 8 left) ∙ (λ j. low_bytes (sym count j) (here j)) ∙ number_bytes first small parts.0 in
-    let behind : (i : ℕ) → v (x + apart + i * apart) ≡ number_is (take 8 (drop (8 * i) rest)) =
-    λ i. let place : 8 * suc i ≡ 8 + 8 * i = omega arith in
+    let behind : (i : ℕ) → i < k → v (suc x + i) ≡ number_is (take 8 (drop (8 * i) rest)) =
+    λ i lt. let place : 8 * suc i ≡ 8 + 8 * i = omega arith in
     let same : drop (8 * suc i) bs ≡ drop (8 * i) rest = ap (λ m. drop m bs) place ∙ sym (drop-drop (8 * i) 8 bs) in
-    subst (λ m. v m ≡ number_is (take 8 (drop (8 * i) rest))) (next_variable x i apart) (given (suc i) ∙ ap (λ ys. number_is (take 8 ys)) same) in
-    let b = words_give v apart k (x + apart) (left - 8) rest (omega (arith, length-drop 8 bs, size)) (omega (arith, few)) parts.1 behind in
+    subst (λ m. v m ≡ number_is (take 8 (drop (8 * i) rest))) (next_variable x i) (given (suc i) (omega (arith, lt)) ∙ ap (λ ys. number_is (take 8 ys)) same) in
+    let b = words_give v k (suc x) (left - 8) rest (omega (arith, length-drop 8 bs, size)) (omega (arith, few)) parts.1 behind in
     (λ j. a j ++ b j) ∙ take-append-drop 8 bs

@@ -111,7 +111,7 @@ written_guarded v d trees trees' code s t b offset n ids same so =
     so ∙ ap (λ (ys : List ℕ). updated (λ m. with_blocks m (put_bytes m.blocks b offset ys)) (guarded v d trees code s)) (ap (λ k. map (value v d) ids ++ zeros k) none ∙ append-nil (map (value v d) ids))
 
 -- what an update does to the one memory of a slot
-same_update : (v : ℕ → ℕ) (d : List Node) (trees : Arena) (code : Listing) (s : Slot) (f g : Memory → Memory) → f (held v d trees code s) ≡ g (held v d trees code s) → updated f (guarded v d trees code s) ≡ updated g (guarded v d trees code s)
+pub same_update : (v : ℕ → ℕ) (d : List Node) (trees : Arena) (code : Listing) (s : Slot) (f g : Memory → Memory) → f (held v d trees code s) ≡ g (held v d trees code s) → updated f (guarded v d trees code s) ≡ updated g (guarded v d trees code s)
 same_update v d trees code s f g e =
     let m = held v d trees code s in
     let b = holds (value v d s.guard) in

@@ -1,9 +1,12 @@
 -- What guarded events tell under a valuation of the variables, and which thread they are a form of.
-use Rattle.std.specs.Prelude.{◌≡◌, ℕ, false, List, [], ◌∷◌, ◌++◌, map, All, if◌then◌else◌}
+use Rattle.std.specs.Prelude.{◌≡◌, ℕ, zero, suc, ◌+◌, ◌*◌, min, false, List, [], ◌∷◌, ◌++◌, map, take, All, if◌then◌else◌}
 use Rattle.words.specs.BitVector.{word}
+use Rattle.words.specs.Operators.{low_bits}
 use Rattle.actions.specs.Behaviour.{Behaviour, word_64}
 use Rattle.actions.specs.Objects.{Objects}
-use Rattle.c_values.specs.Variables.{pointer_to, word_count}
+use Rattle.actions.specs.Pointer.{object_of}
+use Rattle.c_values.specs.Variables.{word_count, drawn_count}
+use Rattle.c_values.specs.MadeObjects.{made_of}
 use Rattle.actions.specs.LocalRun.{Exchange, IsLocalRun}
 use Rattle.actions.specs.declared.action.Action.TheVariants as actions
 use Rattle.actions.specs.declared.action.Answer.TheVariants as answers
@@ -11,23 +14,36 @@ use Rattle.actions.specs.declared.action.Next.{Next}
 use Rattle.actions.specs.declared.action.Next.TheVariants.{Act, Ended, Blocked, Broken}
 use Rattle.word_dag.specs.declared.nodes.Id.{Id}
 use Rattle.word_dag.specs.declared.nodes.Node.{Node}
+use Rattle.word_dag.specs.declared.nodes.Node.TheVariants.{Constant}
 use Rattle.word_dag.specs.Meaning.{width, value, holds}
-use Rattle.word_dag.specs.Growth.{Within}
-use Rattle.value_nodes.specs.Values.{AreBytes}
+use Rattle.word_dag.specs.Growth.{Within, Stands}
+use Rattle.value_nodes.specs.Values.{IsWord, AreBytes}
 use Rattle.guarded_ssa.specs.declared.forms.Event.{Event}
 use Rattle.guarded_ssa.specs.declared.forms.EventKind.{EventKind}
-use Rattle.guarded_ssa.specs.declared.forms.EventKind.TheVariants.{Draw, Read, Write, Exit, Check, Assume}
+use Rattle.guarded_ssa.specs.declared.forms.EventKind.TheVariants.{Draw, Fill, Read, Write, Look, Alloc, Die, Free, Exit, Check, Assume}
 use Rattle.guarded_ssa.specs.Runs.{Run, stops, asks, bytes_of_words, word_widths}
 use Rattle.guarded_ssa.specs.Arrivals.{Seen, asked, stopped, read}
 
 -- ---- under one valuation
 
+-- so many words are drawn for bytes of which there are `size`, from an offset on: 8 bytes a word, the last of the bytes that are left
+abbrev pub draws_seen : (line function words size offset : ℕ) → List ℕ → List Seen
+draws_seen line f zero size offset ws = []
+draws_seen line f (suc k) size offset [] = []
+draws_seen line f (suc k) size offset (w ∷ ws) =
+    let bits = 8 * drawn_count size offset in asked (actions.Draw bits) line f (answers.Word (word bits (low_bits bits w))) ∷ draws_seen line f k size (offset + 8) ws
+
 -- where the guard is true
 abbrev pub kind_seen : (ℕ → ℕ) → List Node → (line function : ℕ) → EventKind → List Seen
 kind_seen v d line f (Draw bits answer) = asked (actions.Draw bits) line f (answers.Word (word bits (value v d answer))) ∷ []
-kind_seen v d line f (Read k offset count answer) =
-    asked (actions.Read (pointer_to k offset) count) line f (answers.Bytes (bytes_of_words count (map (value v d) answer))) ∷ []
-kind_seen v d line f (Write k offset bytes) = asked (actions.Write (pointer_to k offset) (map (value v d) bytes) false) line f answers.Done ∷ []
+kind_seen v d line f (Fill count most words) = let size = min (value v d count) most in draws_seen line f (word_count size) size 0 (map (value v d) words)
+kind_seen v d line f (Read pointer count answer) = asked (actions.Read (value v d pointer) count) line f (answers.Bytes (bytes_of_words count (map (value v d) answer))) ∷ []
+kind_seen v d line f (Write pointer bytes first) = asked (actions.Write (value v d pointer) (map (value v d) bytes) first) line f answers.Done ∷ []
+kind_seen v d line f (Look pointer subscript answer) = asked (actions.Look (value v d pointer) subscript) line f (answers.Size (value v d answer)) ∷ []
+kind_seen v d line f (Alloc size bytes readonly heap answer) =
+    asked (actions.Alloc (made_of readonly heap (take (value v d size) (map (value v d) bytes)))) line f (answers.Number (value v d answer)) ∷ []
+kind_seen v d line f (Die pointer) = asked (actions.Die (object_of (value v d pointer))) line f answers.Done ∷ []
+kind_seen v d line f (Free pointer) = asked (actions.Free (value v d pointer)) line f answers.Done ∷ []
 kind_seen v d line f Exit = asked actions.Exit line f answers.Done ∷ stopped (Ended (word_64 0)) ∷ []
 kind_seen v d line f (Check class failing) = if holds (value v d failing) then stopped (Broken class line f) ∷ [] else []
 kind_seen v d line f (Assume failing) = if holds (value v d failing) then stopped Blocked ∷ [] else []
@@ -71,9 +87,14 @@ pub record AreWords (d : List Node) (count : ℕ) (ids : List Id) : Type 0 where
   pub widths : map (width d) ids ≡ word_widths (word_count count) count
 
 abbrev pub KindIn : List Node → EventKind → Type 0
-KindIn d (Draw bits answer) = Within d answer × (width d answer ≡ bits)
-KindIn d (Read k offset count answer) = AreWords d count answer
-KindIn d (Write k offset bytes) = AreBytes d bytes
+KindIn d (Draw bits answer) = IsWord d answer bits
+KindIn d (Fill count most words) = IsWord d count 64 × AreWords d most words
+KindIn d (Read pointer count answer) = IsWord d pointer 64 × AreWords d count answer
+KindIn d (Write pointer bytes first) = IsWord d pointer 64 × AreBytes d bytes
+KindIn d (Look pointer subscript answer) = IsWord d pointer 64 × IsWord d answer 32
+KindIn d (Alloc size bytes readonly heap answer) = IsWord d size 64 × AreBytes d bytes × IsWord d answer 32
+KindIn d (Die pointer) = IsWord d pointer 64
+KindIn d (Free pointer) = IsWord d pointer 64
 KindIn d Exit = Unit {0}
 KindIn d (Check class failing) = IsBit d failing
 KindIn d (Assume failing) = IsBit d failing
@@ -96,3 +117,29 @@ abbrev pub AreForms : Behaviour → Objects → List Node → List Form → Type
 AreForms b objects d [] = ⊥
 AreForms b objects d (f ∷ []) = IsForm b d f.events × FormIn d f.events × (f.store ≡ objects)
 AreForms b objects d (f ∷ (more ∷ others)) = ⊥
+
+-- ---- forms of code without operations on pointers
+
+-- a pointer that is a constant node: to a static object
+abbrev pub IsFixed : List Node → Id → Type 0
+IsFixed d p = (bits : ℕ) × Stands d (Constant bits 64) p
+
+-- of the kinds that such code has, and each pointer is a constant
+abbrev pub IsStaticKind : List Node → EventKind → Type 0
+IsStaticKind d (Draw bits answer) = Unit {0}
+IsStaticKind d (Fill count most words) = ⊥
+IsStaticKind d (Read pointer count answer) = IsFixed d pointer
+IsStaticKind d (Write pointer bytes first) = IsFixed d pointer × (first ≡ false)
+IsStaticKind d (Look pointer subscript answer) = ⊥
+IsStaticKind d (Alloc size bytes readonly heap answer) = ⊥
+IsStaticKind d (Die pointer) = ⊥
+IsStaticKind d (Free pointer) = ⊥
+IsStaticKind d Exit = Unit {0}
+IsStaticKind d (Check class failing) = Unit {0}
+IsStaticKind d (Assume failing) = Unit {0}
+
+abbrev pub AreStatic : List Node → List Event → Type 0
+AreStatic d es = All (λ (e : Event). IsStaticKind d e.kind) es
+
+abbrev pub AreStaticForms : List Node → List Form → Type 0
+AreStaticForms d fs = All (λ (f : Form). AreStatic d f.events) fs

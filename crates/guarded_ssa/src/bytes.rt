@@ -6,23 +6,28 @@ ghost use Rattle.core_tree.specs.Typed.{is_within};
 ghost use Rattle.c_values.specs.Variables.{zeros, put_bytes, read_variable};
 ghost use Rattle.word_dag.specs.Growth.{Extends};
 ghost use Rattle.word_dag.specs.Meaning.{value};
-ghost use Rattle.value_nodes.specs.Values.{IsValue, AreBytes};
+ghost use Rattle.value_nodes.specs.Values.{IsWord, IsValue, AreBytes};
 ghost use Rattle.value_nodes.specs.Bytes.{AreBytesOf};
 ghost use Rattle.cell_trees.specs.Trees.{Keeps};
-ghost use Rattle.goto_prog.specs.Fitting.{is_block, has_bytes};
+ghost use Rattle.goto_prog.specs.Fitting.{is_block, is_pointer, has_bytes};
 ghost use Rattle.goto_prog.specs.Meaning.{with_blocks, bytes_of, calculated};
+ghost use Rattle.guarded_ssa.specs.Runs.{bytes_of_words};
+ghost use Rattle.guarded_ssa.specs.Forms.{AreWords};
 ghost use Rattle.guarded_ssa.specs.inner.Places.{updated};
 ghost use Rattle.guarded_ssa.specs.inner.Held.{SlotIn, IsPlan, held, guarded, total, counted, owners_from, starts_from};
 ghost use Rattle.guarded_ssa.specs.inner.Conditions.{SlotOf};
+ghost use Rattle.guarded_ssa.specs.inner.Results.{filled_first};
 
+use crate::answers::bytes_of_words;
 use crate::liveness::Plan;
+use crate::parts::{first_of, put, taken};
 use crate::registers::ids_from;
 use crate::slots::Slot;
 use c_types::IntegerType;
 use cell_trees::Trees;
 use goto_prog::Operation;
 use std::alloc::{AllocError, Global};
-use value_nodes::{loaded, stored};
+use value_nodes::{loaded, offset_of, stored};
 use word_dag::{Dag, Id};
 
 /// How many bytes blocks of these sizes have.
@@ -277,6 +282,91 @@ impl Slot {
     {
         let bytes = self.bytes(dag, trees, plan, from.0, from.1, count)?;
         let next = self.written(dag, trees, plan, into.0, into.1, &bytes)?;
+        Ok(next)
+    }
+
+    /// The memory with so many bytes of a block, from the offset of a pointer on, in a block.
+    pub fn with_bytes_taken(
+        self,
+        dag: &mut Dag,
+        trees: &mut Trees,
+        plan: &Plan,
+        into: (usize, u32),
+        from: (usize, u32),
+        offset: usize,
+        count: u32,
+    ) -> Result<Slot, AllocError>
+        requires slot { SlotOf plan.now dag.old trees.old self }
+        requires offset { is_pointer plan.now.code.now.registers offset ≡ true }
+        requires into { is_within plan.now.code.now.blocks into.0 into.1 count ≡ true }
+        requires from { is_block plan.now.code.now.blocks from.0 from.1 ≡ true }
+        ensures extends { Extends dag.old dag.new }
+        ensures keeps { Keeps trees.old trees.new }
+        ensures within { IfOk result (SlotIn dag.new trees.new plan.now.code.now) }
+        ensures guarded { IfOk result (λ s. (v : ℕ → ℕ) → guarded v dag.new trees.new plan.now.code.now s ≡ updated (calculated (Operation.Take into.0 into.1 from.0 offset count from.1)) (guarded v dag.old trees.old plan.now.code.now self)) }
+    {
+        let pointer = self.number(dag, trees, plan, offset, IntegerType::UnsignedLong);
+        let at = offset_of(dag, pointer)?;
+        let block = self.bytes(dag, trees, plan, from.0, 0, from.1)?;
+        let new = taken(plan.alloc, dag, &block, at, count)?;
+        let next = self.written(dag, trees, plan, into.0, into.1, &new)?;
+        Ok(next)
+    }
+
+    /// The memory with so many bytes of a block put into one that has `whole` of them, from the offset of a pointer on.
+    pub fn with_bytes_put(
+        self,
+        dag: &mut Dag,
+        trees: &mut Trees,
+        plan: &Plan,
+        into: (usize, u32),
+        from: (usize, u32),
+        offset: usize,
+        count: u32,
+    ) -> Result<Slot, AllocError>
+        requires slot { SlotOf plan.now dag.old trees.old self }
+        requires offset { is_pointer plan.now.code.now.registers offset ≡ true }
+        requires into { is_block plan.now.code.now.blocks into.0 into.1 ≡ true }
+        requires from { is_within plan.now.code.now.blocks from.0 from.1 count ≡ true }
+        ensures extends { Extends dag.old dag.new }
+        ensures keeps { Keeps trees.old trees.new }
+        ensures within { IfOk result (SlotIn dag.new trees.new plan.now.code.now) }
+        ensures guarded { IfOk result (λ s. (v : ℕ → ℕ) → guarded v dag.new trees.new plan.now.code.now s ≡ updated (calculated (Operation.Put into.0 offset from.0 from.1 count into.1)) (guarded v dag.old trees.old plan.now.code.now self)) }
+    {
+        let pointer = self.number(dag, trees, plan, offset, IntegerType::UnsignedLong);
+        let at = offset_of(dag, pointer)?;
+        let block = self.bytes(dag, trees, plan, into.0, 0, into.1)?;
+        let new = self.bytes(dag, trees, plan, from.0, from.1, count)?;
+        let whole = put(plan.alloc, dag, &block, at, &new)?;
+        let next = self.written(dag, trees, plan, into.0, 0, &whole)?;
+        Ok(next)
+    }
+
+    /// The memory with the first bytes of a block drawn, as many as a node says, in so many words; of the block `most` bytes
+    /// are there or the node says fewer.
+    pub fn with_words_drawn(
+        self,
+        dag: &mut Dag,
+        trees: &mut Trees,
+        plan: &Plan,
+        block: usize,
+        count: Id,
+        most: u32,
+        words: &[Id],
+    ) -> Result<Slot, AllocError>
+        requires slot { SlotOf plan.now dag.old trees.old self }
+        requires block { is_within plan.now.code.now.blocks block 0 most ≡ true }
+        requires count { IsWord dag.old count 64 }
+        requires words { AreWords dag.old most words.now }
+        ensures extends { Extends dag.old dag.new }
+        ensures keeps { Keeps trees.old trees.new }
+        ensures within { IfOk result (SlotIn dag.new trees.new plan.now.code.now) }
+        ensures guarded { IfOk result (λ s. (v : ℕ → ℕ) → guarded v dag.new trees.new plan.now.code.now s ≡ updated (filled_first block (value v dag.old count) (bytes_of_words most (map (value v dag.old) words.now))) (guarded v dag.old trees.old plan.now.code.now self)) }
+    {
+        let new = bytes_of_words(plan.alloc, dag, words, most)?;
+        let old = self.bytes(dag, trees, plan, block, 0, most)?;
+        let bytes = first_of(plan.alloc, dag, count, &new, &old)?;
+        let next = self.written(dag, trees, plan, block, 0, &bytes)?;
         Ok(next)
     }
 }

@@ -56,19 +56,49 @@ pub enum EventKind {
         bits: u32,
         answer: Id,
     },
-    /// The thread reads so many bytes of a static object, from an offset on; `answer` is the words that it
-    /// is given, each of 8 bytes, the last of those that are left.
+    /// The thread draws the first `count` bytes, at most `most` of them, in words of 8 bytes, the last of those that are
+    /// left; of each word that it draws `words` has a node, which is cut to the bytes that are left. `count` is a node of 64
+    /// bits.
+    Fill {
+        count: Id,
+        most: u32,
+        words: Nodes,
+    },
+    /// The thread reads so many bytes from a pointer on, a node of 64 bits; `answer` is the words that it is given, each of 8
+    /// bytes, the last of those that are left.
     Read {
-        object: u32,
-        offset: u32,
+        pointer: Id,
         count: u32,
         answer: Nodes,
     },
-    /// The thread writes these bytes into a static object, from an offset on: nodes of 8 bits.
+    /// The thread writes these bytes, nodes of 8 bits, where a pointer points to; `first` where they initialize the object.
     Write {
-        object: u32,
-        offset: u32,
+        pointer: Id,
         bytes: Nodes,
+        first: bool,
+    },
+    /// The thread looks at the size of a pointer's object; `answer` is that size, a node of 32 bits.
+    Look {
+        pointer: Id,
+        subscript: bool,
+        answer: Id,
+    },
+    /// The thread makes an object of the first `size` of these bytes; `answer` is the number that it is given, a node of 32
+    /// bits.
+    Alloc {
+        size: Id,
+        bytes: Nodes,
+        readonly: bool,
+        heap: bool,
+        answer: Id,
+    },
+    /// The thread ends the lifetime of a pointer's object.
+    Die {
+        pointer: Id,
+    },
+    /// The thread frees the object that a pointer points to.
+    Free {
+        pointer: Id,
     },
     /// The thread ends the process.
     Exit,
@@ -93,32 +123,65 @@ impl EventKind {
                 bits: *bits,
                 answer: *answer,
             }),
+            EventKind::Fill { count, most, words } => {
+                let words = words.copied(alloc)?;
+                Ok(EventKind::Fill {
+                    count: *count,
+                    most: *most,
+                    words,
+                })
+            }
             EventKind::Read {
-                object,
-                offset,
+                pointer,
                 count,
                 answer,
             } => {
                 let answer = answer.copied(alloc)?;
                 Ok(EventKind::Read {
-                    object: *object,
-                    offset: *offset,
+                    pointer: *pointer,
                     count: *count,
                     answer,
                 })
             }
             EventKind::Write {
-                object,
-                offset,
+                pointer,
                 bytes,
+                first,
             } => {
                 let bytes = bytes.copied(alloc)?;
                 Ok(EventKind::Write {
-                    object: *object,
-                    offset: *offset,
+                    pointer: *pointer,
                     bytes,
+                    first: *first,
                 })
             }
+            EventKind::Look {
+                pointer,
+                subscript,
+                answer,
+            } => Ok(EventKind::Look {
+                pointer: *pointer,
+                subscript: *subscript,
+                answer: *answer,
+            }),
+            EventKind::Alloc {
+                size,
+                bytes,
+                readonly,
+                heap,
+                answer,
+            } => {
+                let bytes = bytes.copied(alloc)?;
+                Ok(EventKind::Alloc {
+                    size: *size,
+                    bytes,
+                    readonly: *readonly,
+                    heap: *heap,
+                    answer: *answer,
+                })
+            }
+            EventKind::Die { pointer } => Ok(EventKind::Die { pointer: *pointer }),
+            EventKind::Free { pointer } => Ok(EventKind::Free { pointer: *pointer }),
             EventKind::Exit => Ok(EventKind::Exit),
             EventKind::Check { class, failing } => Ok(EventKind::Check {
                 class: *class,

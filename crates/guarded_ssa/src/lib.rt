@@ -9,6 +9,7 @@ mod forming;
 mod forms;
 mod formula;
 mod liveness;
+mod parts;
 mod pass;
 mod registers;
 mod slots;

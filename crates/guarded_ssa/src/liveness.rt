@@ -2,7 +2,7 @@
 
 ghost use Rattle.std.specs.Prelude.{◌≡◌, ℕ, ◌<◌, ◌^◌, ◌+◌, length, IfOk};
 ghost use Rattle.guarded_ssa.specs.inner.Held.{IsPlan};
-ghost use Rattle.guarded_ssa.specs.inner.Reads.{first_checked, second_checked, first_read, second_read, block_read, IsRead, IsBlockRead, Later, Covers};
+ghost use Rattle.guarded_ssa.specs.inner.Reads.{first_checked, second_checked, third_checked, first_read, second_read, third_read, block_read, IsRead, IsBlockRead, Later, Covers};
 
 use crate::bytes::{cell_types, owners, starts};
 use c_types::IntegerType;
@@ -23,41 +23,69 @@ pub struct Plan<'a> {
 }
 
 // The registers that a condition reads.
-fn checked(condition: Condition) -> (Option<usize>, Option<usize>)
-    ensures { (result.0 ≡ first_checked condition) × (result.1 ≡ second_checked condition) }
+fn checked(condition: Condition) -> (Option<usize>, Option<usize>, Option<usize>)
+    ensures first { result.0 ≡ first_checked condition }
+    ensures second { result.1 ≡ second_checked condition }
+    ensures third { result.2 ≡ third_checked condition }
 {
     match condition {
-        Condition::Divisor { divisor } => (Some(divisor), None),
-        Condition::Quotient { left, right, .. } => (Some(left), Some(right)),
-        Condition::Range { left, right, .. } => (Some(left), Some(right)),
-        Condition::Negation { operand, .. } => (Some(operand), None),
-        Condition::Count { count, .. } => (Some(count), None),
-        Condition::LeftShift { left, count, .. } => (Some(left), Some(count)),
-        Condition::Returned { returned } => (Some(returned), None),
-        // Code has no checks of pointers yet.
-        Condition::Within { .. }
-        | Condition::SameObject { .. }
-        | Condition::Inside { .. }
-        | Condition::AtMost { .. } => (None, None),
+        Condition::Divisor { divisor } => (Some(divisor), None, None),
+        Condition::Quotient { left, right, .. } => (Some(left), Some(right), None),
+        Condition::Range { left, right, .. } => (Some(left), Some(right), None),
+        Condition::Negation { operand, .. } => (Some(operand), None, None),
+        Condition::Count { count, .. } => (Some(count), None, None),
+        Condition::LeftShift { left, count, .. } => (Some(left), Some(count), None),
+        Condition::Returned { returned } => (Some(returned), None, None),
+        Condition::Within {
+            pointer,
+            index,
+            size,
+            ..
+        } => (Some(pointer), Some(index), Some(size)),
+        Condition::SameObject { left, right } => (Some(left), Some(right), None),
+        Condition::Inside { offset, .. } => (Some(offset), None, None),
+        Condition::AtMost { left, right, .. } => (Some(left), Some(right), None),
     }
 }
 
 // The registers that an operation reads.
-fn reads(operation: Operation) -> (Option<usize>, Option<usize>)
-    ensures { (result.0 ≡ first_read operation) × (result.1 ≡ second_read operation) }
+fn reads(operation: Operation) -> (Option<usize>, Option<usize>, Option<usize>)
+    ensures first { result.0 ≡ first_read operation }
+    ensures second { result.1 ≡ second_read operation }
+    ensures third { result.2 ≡ third_read operation }
 {
     match operation {
         Operation::Copy { operand, .. } | Operation::IsZero { operand, .. } => {
-            (Some(operand), None)
+            (Some(operand), None, None)
         }
-        Operation::Store { operand, .. } => (Some(operand), None),
-        Operation::Convert { operand, .. } => (Some(operand), None),
-        Operation::Sign { operand, .. } => (Some(operand), None),
-        Operation::Arithmetic { left, right, .. } => (Some(left), Some(right)),
-        Operation::Compare { left, right, .. } => (Some(left), Some(right)),
-        Operation::SkipIfZero { operand, .. } => (Some(operand), None),
+        Operation::Store { operand, .. } => (Some(operand), None, None),
+        Operation::Convert { operand, .. } => (Some(operand), None, None),
+        Operation::Sign { operand, .. } => (Some(operand), None, None),
+        Operation::Arithmetic { left, right, .. } => (Some(left), Some(right), None),
+        Operation::Compare { left, right, .. } => (Some(left), Some(right), None),
+        Operation::SkipIfZero { operand, .. } => (Some(operand), None, None),
         Operation::Check { condition } => checked(condition),
-        Operation::Assert { operand } | Operation::Assume { operand } => (Some(operand), None),
+        Operation::Assert { operand } | Operation::Assume { operand } => {
+            (Some(operand), None, None)
+        }
+        Operation::Move {
+            pointer,
+            index,
+            size,
+            ..
+        } => (Some(pointer), Some(index), Some(size)),
+        Operation::Offset { pointer, .. } => (Some(pointer), None, None),
+        Operation::Distance { left, right, .. } => (Some(left), Some(right), None),
+        Operation::Relate { left, right, .. } => (Some(left), Some(right), None),
+        Operation::Take { offset, .. } | Operation::Put { offset, .. } => {
+            (Some(offset), None, None)
+        }
+        Operation::Read { pointer, .. } => (Some(pointer), None, None),
+        Operation::Write { pointer, .. } => (Some(pointer), None, None),
+        Operation::Look { pointer, .. } => (Some(pointer), None, None),
+        Operation::Fill { count, .. } => (Some(count), None, None),
+        Operation::Alloc { size, .. } => (Some(size), None, None),
+        Operation::Die { pointer } | Operation::Free { pointer } => (Some(pointer), None, None),
         Operation::Constant { .. }
         | Operation::Load { .. }
         | Operation::Clear { .. }
@@ -70,24 +98,10 @@ fn reads(operation: Operation) -> (Option<usize>, Option<usize>)
         | Operation::Fail { .. }
         | Operation::Use { .. }
         | Operation::Call { .. }
-        | Operation::Return { .. } => (None, None),
-        // Code has no operations on pointers yet.
-        Operation::Move { .. }
-        | Operation::Offset { .. }
+        | Operation::Return { .. }
         | Operation::Same { .. }
-        | Operation::Distance { .. }
-        | Operation::Relate { .. }
-        | Operation::Take { .. }
-        | Operation::Put { .. }
-        | Operation::Read { .. }
-        | Operation::Write { .. }
-        | Operation::Look { .. }
-        | Operation::Fill { .. }
-        | Operation::Alloc { .. }
-        | Operation::Die { .. }
-        | Operation::Free { .. }
         | Operation::MayFail { .. }
-        | Operation::Limit { .. } => (None, None),
+        | Operation::Limit { .. } => (None, None, None),
     }
 }
 
@@ -99,6 +113,10 @@ fn block_read(operation: Operation) -> Option<usize>
         Operation::Load { block, .. } => Some(block),
         Operation::CopyBytes { from, .. } => Some(from),
         Operation::WriteObject { block, .. } => Some(block),
+        Operation::Take { from, .. } | Operation::Put { from, .. } => Some(from),
+        Operation::Write { block, .. } => Some(block),
+        Operation::Fill { block, .. } => Some(block),
+        Operation::Alloc { block, .. } => Some(block),
         _ => None,
     }
 }
@@ -135,9 +153,10 @@ fn reading(alloc: Global, code: &Code) -> Result<Vec<usize>, AllocError>
     let registers = code.registers().len();
     let mut until = vec![in alloc; 0; registers + code.blocks().len()]?;
     for (place, instruction) in code.instructions().iter().enumerate() {
-        let (first, second) = reads(instruction.operation);
+        let (first, second, third) = reads(instruction.operation);
         mark(&mut until, first, place);
         mark(&mut until, second, place);
+        mark(&mut until, third, place);
         mark_block(
             &mut until,
             registers,

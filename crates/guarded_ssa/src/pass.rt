@@ -14,7 +14,9 @@ ghost use Rattle.std.specs.Prelude.{
   ◌∷◌,
   ◌++◌,
   ◌≤◌,
+  slice_index,
   slice_index_or,
+  nat_lt,
   Some,
   None,
   length,
@@ -30,11 +32,15 @@ ghost use Rattle.word_dag.specs.Growth.{Within, Extends};
 ghost use Rattle.word_dag.specs.Meaning.{width, value};
 ghost use Rattle.c_types.specs.Integers.{width as type_width};
 ghost use Rattle.core_tree.specs.Typed.{is_within};
-ghost use Rattle.goto_prog.specs.Fitting.{is_there, is_register, check_fits, operation_fits};
+ghost use Rattle.goto_prog.specs.Fitting.{is_there, is_pointer, check_fits, operation_fits};
+ghost use Rattle.c_values.specs.Variables.{pointer_to, word_count};
+ghost use Rattle.value_nodes.specs.Values.{IsWord, IsValue};
+ghost use Rattle.value_nodes.specs.Bytes.{AreBytesOf};
+ghost use Rattle.guarded_ssa.specs.Runs.{bytes_of_words};
+ghost use Rattle.guarded_ssa.specs.inner.Answers.{words_by, variables_of};
 ghost use Rattle.goto_prog.specs.Running.{is_calculation};
-ghost use Rattle.goto_prog.specs.Static.{is_static, is_static_check};
 ghost use Rattle.goto_prog.specs.UnrolledCode.{is_flat};
-ghost use Rattle.guarded_ssa.specs.Forms.{EventIn};
+ghost use Rattle.guarded_ssa.specs.Forms.{EventIn, AreWords, IsFixed};
 ghost use Rattle.goto_prog.specs.CodeThread.{first_memory};
 ghost use Rattle.guarded_ssa.specs.inner.Held.{SlotIn, PassIn, Arrives, Tells, Visits, IsPlan, arrivals};
 ghost use Rattle.guarded_ssa.specs.inner.Conditions.{Reached, PassesHere};
@@ -42,26 +48,68 @@ ghost use Rattle.guarded_ssa.specs.inner.Conditions.{Reached, PassesHere};
 use crate::answers::{answer_words, bytes_of_words};
 use crate::forms::{Event, EventKind, Nodes};
 use crate::liveness::Plan;
+use crate::parts::at_most;
 use crate::slots::Slot;
 use crate::values::class_of;
 use c_types::IntegerType;
+use c_values::pointer_to;
 use cell_trees::Trees;
-use core_tree::ArithmeticOperator;
 use goto_prog::{Condition, Instruction, Operation};
 use std::alloc::{AllocError, Global};
 use std::collections::VecDeque;
-use value_nodes::zero_test;
-use word_dag::{Dag, Node};
+use value_nodes::{pointer_to as pointer_node, zero_test};
+use word_dag::{Dag, Id, Node};
 use words::Class;
 
-/// A place that a pass is at: its number, the line and the function of its instruction, and the slot with which
-/// it is reached.
+/// A place that a pass is at: its number, the number of its first variable, the line and the function of its instruction,
+/// and the slot with which it is reached.
 #[derive(Clone, Copy)]
 pub struct Here {
     pub place: usize,
+    pub variable: usize,
     pub line: u32,
     pub function: u32,
     pub slot: Slot,
+}
+
+// The pointer to an offset of a static object, as a constant.
+fn fixed_pointer(dag: &mut Dag, object: u32, offset: u32) -> Result<Id, AllocError>
+    ensures extends { Extends dag.old dag.new }
+    ensures made { IfOk result (λ i. IsValue dag.new i 64 (λ v. pointer_to object offset)) }
+    ensures fixed { IfOk result (IsFixed dag.new) }
+{
+    let id = dag.make(Node::Constant(pointer_to(object, offset), 64))?;
+    Ok(id)
+}
+
+// The pointer to the start of the object with this number.
+fn made_pointer(dag: &mut Dag, number: Id) -> Result<Id, AllocError>
+    requires { IsWord dag.old number 32 }
+    ensures extends { Extends dag.old dag.new }
+    ensures made { IfOk result (λ i. IsValue dag.new i 64 (λ v. pointer_to (value v dag.old number) 0)) }
+{
+    let zero = dag.make(Node::Constant(0, 32))?;
+    let id = pointer_node(dag, number, zero)?;
+    Ok(id)
+}
+
+// The words that answer a read, and their bytes.
+fn read_answer(
+    alloc: Global,
+    dag: &mut Dag,
+    variable: usize,
+    count: u32,
+) -> Result<(Nodes, Vec<Id>), AllocError>
+    requires { variable + word_count count ≤ 2 ^ 32 }
+    ensures extends { Extends dag.old dag.new }
+    ensures words { IfOk result (λ r. AreWords dag.new count r.0) }
+    ensures values { IfOk result (λ r. (v : ℕ → ℕ) → map (value v dag.new) r.0 ≡ words_by v (word_count count) variable count) }
+    ensures made { IfOk result (λ r. AreBytesOf dag.new r.1.items (λ v. bytes_of_words count (words_by v (word_count count) variable count))) }
+    ensures size { IfOk result (λ r. length r.1.items ≡ count) }
+{
+    let answer = answer_words(alloc, dag, variable, count)?;
+    let bytes = bytes_of_words(alloc, dag, &answer, count)?;
+    Ok((Nodes::new(answer), bytes))
 }
 
 /// A pass over code: the events that were told so far, for each place from the next on the memory with which it is
@@ -177,7 +225,6 @@ impl Pass {
         requires reached { Reached plan.now dag.old self.old here }
         requires fits { operation_fits plan.now.code.now.registers plan.now.code.now.blocks 0 operation ≡ true }
         requires calculation { is_calculation operation ≡ true }
-        requires plain { is_static operation ≡ true }
         ensures extends { Extends dag.old dag.new }
         ensures passes { OnOk result (PassesHere plan.now here operation dag.old dag.new self.old self.new) }
     {
@@ -267,7 +314,6 @@ impl Pass {
     ) -> Result<(), AllocError>
         requires reached { Reached plan.now dag.old self.old here }
         requires fits { check_fits plan.now.code.now.registers condition ≡ true }
-        requires plain { is_static_check condition ≡ true }
         ensures extends { Extends dag.old dag.new }
         ensures passes { OnOk result (PassesHere plan.now here (Operation.Check condition) dag.old dag.new self.old self.new) }
     {
@@ -336,7 +382,7 @@ impl Pass {
         Ok(())
     }
 
-    // A draw: its answer is the variable of its place.
+    // A draw: its answer is a variable.
     fn draw(
         &mut self,
         dag: &mut Dag,
@@ -346,7 +392,7 @@ impl Pass {
         bits: u32,
     ) -> Result<(), AllocError>
         requires reached { Reached plan.now dag.old self.old here }
-        requires place { here.place < 2 ^ 32 }
+        requires variable { here.variable < 2 ^ 32 }
         requires into { is_there plan.now.code.now.registers into ≡ true }
         requires positive { 1 ≤ bits }
         requires width { bits ≤ type_width (slice_index_or plan.now.code.now.registers into IntegerType.Int) }
@@ -354,7 +400,7 @@ impl Pass {
         ensures passes { OnOk result (PassesHere plan.now here (Operation.Draw into bits) dag.old dag.new self.old self.new) }
     {
         let width = plan.code.registers()[into].width();
-        let answer = dag.make(Node::Variable(here.place as u32, bits))?;
+        let answer = dag.make(Node::Variable(here.variable as u32, bits))?;
         let word = dag.make(Node::ZeroExtend(answer, width))?;
         let event = Event {
             guard: here.slot.guard,
@@ -367,8 +413,8 @@ impl Pass {
         Ok(())
     }
 
-    // A read of a static object: its answer is variables, the first of which is that of its place.
-    fn read(
+    // A read of a static object: its answer is variables.
+    fn read_object(
         &mut self,
         dag: &mut Dag,
         plan: &Plan,
@@ -378,24 +424,57 @@ impl Pass {
         count: u32,
     ) -> Result<(), AllocError>
         requires reached { Reached plan.now dag.old self.old here }
-        requires place { here.place < 2 ^ 32 }
-        requires few { length plan.now.code.now.instructions < 2 ^ 33 }
+        requires variables { here.variable + word_count count ≤ 2 ^ 32 }
         requires into { is_within plan.now.code.now.blocks into.0 into.1 count ≡ true }
         ensures extends { Extends dag.old dag.new }
         ensures passes { OnOk result (PassesHere plan.now here (Operation.ReadObject into.0 into.1 from.0 from.1 count) dag.old dag.new self.old self.new) }
     {
-        let apart = plan.code.instructions().len();
-        let answer = answer_words(plan.alloc, dag, here.place, apart, count)?;
-        let bytes = bytes_of_words(plan.alloc, dag, &answer, count)?;
+        let pointer = fixed_pointer(dag, from.0, from.1)?;
+        let (answer, bytes) = read_answer(plan.alloc, dag, here.variable, count)?;
         let event = Event {
             guard: here.slot.guard,
             line: here.line,
             function: here.function,
             kind: EventKind::Read {
-                object: from.0,
-                offset: from.1,
+                pointer,
                 count,
-                answer: Nodes::new(answer),
+                answer,
+            },
+        };
+        let next = here
+            .slot
+            .written(dag, &mut self.trees, plan, into.0, into.1, &bytes)?;
+        self.tell_and_go(dag, plan, Here { slot: next, ..here }, event)?;
+        Ok(())
+    }
+
+    // A read where a pointer points to: its answer is variables.
+    fn read(
+        &mut self,
+        dag: &mut Dag,
+        plan: &Plan,
+        here: Here,
+        into: (usize, u32),
+        pointer: usize,
+        count: u32,
+    ) -> Result<(), AllocError>
+        requires reached { Reached plan.now dag.old self.old here }
+        requires variables { here.variable + word_count count ≤ 2 ^ 32 }
+        requires into { is_within plan.now.code.now.blocks into.0 into.1 count ≡ true }
+        requires pointer { is_pointer plan.now.code.now.registers pointer ≡ true }
+        ensures extends { Extends dag.old dag.new }
+        ensures passes { OnOk result (PassesHere plan.now here (Operation.Read into.0 into.1 pointer count) dag.old dag.new self.old self.new) }
+    {
+        let at = here.slot.pointer(dag, &self.trees, plan, pointer);
+        let (answer, bytes) = read_answer(plan.alloc, dag, here.variable, count)?;
+        let event = Event {
+            guard: here.slot.guard,
+            line: here.line,
+            function: here.function,
+            kind: EventKind::Read {
+                pointer: at,
+                count,
+                answer,
             },
         };
         let next = here
@@ -406,7 +485,7 @@ impl Pass {
     }
 
     // A write of a static object.
-    fn write(
+    fn write_object(
         &mut self,
         dag: &mut Dag,
         plan: &Plan,
@@ -420,6 +499,7 @@ impl Pass {
         ensures extends { Extends dag.old dag.new }
         ensures passes { OnOk result (PassesHere plan.now here (Operation.WriteObject into.0 into.1 from.0 from.1 count) dag.old dag.new self.old self.new) }
     {
+        let pointer = fixed_pointer(dag, into.0, into.1)?;
         let bytes = here
             .slot
             .bytes(dag, &self.trees, plan, from.0, from.1, count)?;
@@ -428,10 +508,204 @@ impl Pass {
             line: here.line,
             function: here.function,
             kind: EventKind::Write {
-                object: into.0,
-                offset: into.1,
+                pointer,
                 bytes: Nodes::new(bytes),
+                first: false,
             },
+        };
+        self.tell_and_go(dag, plan, here, event)?;
+        Ok(())
+    }
+
+    // A write where a pointer points to.
+    fn write(
+        &mut self,
+        dag: &mut Dag,
+        plan: &Plan,
+        here: Here,
+        pointer: usize,
+        from: (usize, u32),
+        count: u32,
+        first: bool,
+    ) -> Result<(), AllocError>
+        requires reached { Reached plan.now dag.old self.old here }
+        requires pointer { is_pointer plan.now.code.now.registers pointer ≡ true }
+        requires from { is_within plan.now.code.now.blocks from.0 from.1 count ≡ true }
+        ensures extends { Extends dag.old dag.new }
+        ensures passes { OnOk result (PassesHere plan.now here (Operation.Write pointer from.0 from.1 count first) dag.old dag.new self.old self.new) }
+    {
+        let at = here.slot.pointer(dag, &self.trees, plan, pointer);
+        let bytes = here
+            .slot
+            .bytes(dag, &self.trees, plan, from.0, from.1, count)?;
+        let event = Event {
+            guard: here.slot.guard,
+            line: here.line,
+            function: here.function,
+            kind: EventKind::Write {
+                pointer: at,
+                bytes: Nodes::new(bytes),
+                first,
+            },
+        };
+        self.tell_and_go(dag, plan, here, event)?;
+        Ok(())
+    }
+
+    // A look at the size of a pointer's object: its answer is a variable.
+    fn look(
+        &mut self,
+        dag: &mut Dag,
+        plan: &Plan,
+        here: Here,
+        into: usize,
+        pointer: usize,
+        subscript: bool,
+    ) -> Result<(), AllocError>
+        requires reached { Reached plan.now dag.old self.old here }
+        requires variable { here.variable < 2 ^ 32 }
+        requires into { is_pointer plan.now.code.now.registers into ≡ true }
+        requires pointer { is_pointer plan.now.code.now.registers pointer ≡ true }
+        ensures extends { Extends dag.old dag.new }
+        ensures passes { OnOk result (PassesHere plan.now here (Operation.Look into pointer subscript) dag.old dag.new self.old self.new) }
+    {
+        let at = here.slot.pointer(dag, &self.trees, plan, pointer);
+        let answer = dag.make(Node::Variable(here.variable as u32, 32))?;
+        let size = dag.make(Node::ZeroExtend(answer, 64))?;
+        let event = Event {
+            guard: here.slot.guard,
+            line: here.line,
+            function: here.function,
+            kind: EventKind::Look {
+                pointer: at,
+                subscript,
+                answer,
+            },
+        };
+        let next = here.slot.put(dag, &mut self.trees, plan, into, size)?;
+        self.tell_and_go(dag, plan, Here { slot: next, ..here }, event)?;
+        Ok(())
+    }
+
+    // The first bytes of a block are drawn: a variable for each word.
+    fn fill(
+        &mut self,
+        dag: &mut Dag,
+        plan: &Plan,
+        here: Here,
+        block: usize,
+        count: usize,
+    ) -> Result<(), AllocError>
+        requires reached { Reached plan.now dag.old self.old here }
+        requires variables { here.variable + word_count (slice_index plan.now.code.now.blocks block) ≤ 2 ^ 32 }
+        requires block { nat_lt block (length plan.now.code.now.blocks) ≡ true }
+        requires count { is_pointer plan.now.code.now.registers count ≡ true }
+        ensures extends { Extends dag.old dag.new }
+        ensures passes { OnOk result (PassesHere plan.now here (Operation.Fill block count) dag.old dag.new self.old self.new) }
+    {
+        let number = here.slot.pointer(dag, &self.trees, plan, count);
+        let most = at_most(dag, number, plan.code.blocks()[block]);
+        let words = answer_words(plan.alloc, dag, here.variable, most)?;
+        let next = here
+            .slot
+            .with_words_drawn(dag, &mut self.trees, plan, block, number, most, &words)?;
+        let event = Event {
+            guard: here.slot.guard,
+            line: here.line,
+            function: here.function,
+            kind: EventKind::Fill {
+                count: number,
+                most,
+                words: Nodes::new(words),
+            },
+        };
+        self.tell_and_go(dag, plan, Here { slot: next, ..here }, event)?;
+        Ok(())
+    }
+
+    // An object is made of the first bytes of a block: the answer is a variable, its number.
+    fn alloc(
+        &mut self,
+        dag: &mut Dag,
+        plan: &Plan,
+        here: Here,
+        into: usize,
+        from: (usize, usize),
+        kind: (bool, bool),
+    ) -> Result<(), AllocError>
+        requires reached { Reached plan.now dag.old self.old here }
+        requires variable { here.variable < 2 ^ 32 }
+        requires into { is_pointer plan.now.code.now.registers into ≡ true }
+        requires block { nat_lt from.0 (length plan.now.code.now.blocks) ≡ true }
+        requires size { is_pointer plan.now.code.now.registers from.1 ≡ true }
+        ensures extends { Extends dag.old dag.new }
+        ensures passes { OnOk result (PassesHere plan.now here (Operation.Alloc into from.0 from.1 kind.0 kind.1) dag.old dag.new self.old self.new) }
+    {
+        let size = here.slot.pointer(dag, &self.trees, plan, from.1);
+        let most = at_most(dag, size, plan.code.blocks()[from.0]);
+        let bytes = here.slot.bytes(dag, &self.trees, plan, from.0, 0, most)?;
+        let answer = dag.make(Node::Variable(here.variable as u32, 32))?;
+        let pointer = made_pointer(dag, answer)?;
+        let event = Event {
+            guard: here.slot.guard,
+            line: here.line,
+            function: here.function,
+            kind: EventKind::Alloc {
+                size,
+                bytes: Nodes::new(bytes),
+                readonly: kind.0,
+                heap: kind.1,
+                answer,
+            },
+        };
+        let next = here.slot.put(dag, &mut self.trees, plan, into, pointer)?;
+        self.tell_and_go(dag, plan, Here { slot: next, ..here }, event)?;
+        Ok(())
+    }
+
+    // The end of an object's lifetime.
+    fn die(
+        &mut self,
+        dag: &mut Dag,
+        plan: &Plan,
+        here: Here,
+        pointer: usize,
+    ) -> Result<(), AllocError>
+        requires reached { Reached plan.now dag.old self.old here }
+        requires pointer { is_pointer plan.now.code.now.registers pointer ≡ true }
+        ensures extends { Extends dag.old dag.new }
+        ensures passes { OnOk result (PassesHere plan.now here (Operation.Die pointer) dag.old dag.new self.old self.new) }
+    {
+        let at = here.slot.pointer(dag, &self.trees, plan, pointer);
+        let event = Event {
+            guard: here.slot.guard,
+            line: here.line,
+            function: here.function,
+            kind: EventKind::Die { pointer: at },
+        };
+        self.tell_and_go(dag, plan, here, event)?;
+        Ok(())
+    }
+
+    // An object is freed.
+    fn free(
+        &mut self,
+        dag: &mut Dag,
+        plan: &Plan,
+        here: Here,
+        pointer: usize,
+    ) -> Result<(), AllocError>
+        requires reached { Reached plan.now dag.old self.old here }
+        requires pointer { is_pointer plan.now.code.now.registers pointer ≡ true }
+        ensures extends { Extends dag.old dag.new }
+        ensures passes { OnOk result (PassesHere plan.now here (Operation.Free pointer) dag.old dag.new self.old self.new) }
+    {
+        let at = here.slot.pointer(dag, &self.trees, plan, pointer);
+        let event = Event {
+            guard: here.slot.guard,
+            line: here.line,
+            function: here.function,
+            kind: EventKind::Free { pointer: at },
         };
         self.tell_and_go(dag, plan, here, event)?;
         Ok(())
@@ -478,7 +752,7 @@ impl Pass {
         Ok(())
     }
 
-    // A call or a return, which unrolled code doesn't have.
+    // An operation that unrolled code doesn't have: a call, a return, or one that asks for bounds.
     fn stop(
         &mut self,
         dag: &mut Dag,
@@ -488,7 +762,6 @@ impl Pass {
     ) -> Result<(), AllocError>
         requires reached { Reached plan.now dag.old self.old here }
         requires stops { is_flat operation ≡ false }
-        requires plain { is_static operation ≡ true }
         ensures extends { Extends dag.old dag.new }
         ensures passes { OnOk result (PassesHere plan.now here operation dag.old dag.new self.old self.new) }
     {
@@ -514,10 +787,8 @@ impl Pass {
         operation: Operation,
     ) -> Result<(), AllocError>
         requires reached { Reached plan.now dag.old self.old here }
-        requires place { here.place < 2 ^ 32 }
-        requires few { length plan.now.code.now.instructions < 2 ^ 33 }
+        requires variables { here.variable + variables_of plan.now.code.now.blocks operation ≤ 2 ^ 32 }
         requires fits { operation_fits plan.now.code.now.registers plan.now.code.now.blocks (length (drop (here.place + 1) plan.now.code.now.instructions)) operation ≡ true }
-        requires plain { is_static operation ≡ true }
         ensures extends { Extends dag.old dag.new }
         ensures passes { OnOk result (PassesHere plan.now here operation dag.old dag.new self.old self.new) }
     {
@@ -534,19 +805,48 @@ impl Pass {
                 object,
                 offset,
                 count,
-            } => self.read(dag, plan, here, (block, at), (object, offset), count),
+            } => self.read_object(dag, plan, here, (block, at), (object, offset), count),
             Operation::WriteObject {
                 object,
                 offset,
                 block,
                 at,
                 count,
-            } => self.write(dag, plan, here, (object, offset), (block, at), count),
+            } => self.write_object(dag, plan, here, (object, offset), (block, at), count),
             Operation::Exit => self.exit(dag, plan, here),
             Operation::Fail { class } => self.fail(dag, plan, here, class),
-            Operation::Call { .. } | Operation::Return { .. } => {
-                self.stop(dag, plan, here, operation)
-            }
+            Operation::Read {
+                block,
+                at,
+                pointer,
+                count,
+            } => self.read(dag, plan, here, (block, at), pointer, count),
+            Operation::Write {
+                pointer,
+                block,
+                at,
+                count,
+                first,
+            } => self.write(dag, plan, here, pointer, (block, at), count, first),
+            Operation::Look {
+                into,
+                pointer,
+                subscript,
+            } => self.look(dag, plan, here, into, pointer, subscript),
+            Operation::Fill { block, count } => self.fill(dag, plan, here, block, count),
+            Operation::Alloc {
+                into,
+                block,
+                size,
+                readonly,
+                heap,
+            } => self.alloc(dag, plan, here, into, (block, size), (readonly, heap)),
+            Operation::Die { pointer } => self.die(dag, plan, here, pointer),
+            Operation::Free { pointer } => self.free(dag, plan, here, pointer),
+            Operation::Call { .. }
+            | Operation::Return { .. }
+            | Operation::MayFail { .. }
+            | Operation::Limit { .. } => self.stop(dag, plan, here, operation),
             Operation::Constant { .. }
             | Operation::Copy { .. }
             | Operation::Load { .. }
@@ -558,23 +858,14 @@ impl Pass {
             | Operation::Arithmetic { .. }
             | Operation::Compare { .. }
             | Operation::IsZero { .. }
-            | Operation::Use { .. } => self.calculate(dag, plan, here, operation),
-            Operation::Move { .. }
+            | Operation::Use { .. }
+            | Operation::Move { .. }
             | Operation::Offset { .. }
             | Operation::Same { .. }
             | Operation::Distance { .. }
             | Operation::Relate { .. }
             | Operation::Take { .. }
-            | Operation::Put { .. }
-            | Operation::Read { .. }
-            | Operation::Write { .. }
-            | Operation::Look { .. }
-            | Operation::Fill { .. }
-            | Operation::Alloc { .. }
-            | Operation::Die { .. }
-            | Operation::Free { .. }
-            | Operation::MayFail { .. }
-            | Operation::Limit { .. } => unreachable!(),
+            | Operation::Put { .. } => self.calculate(dag, plan, here, operation),
         }
     }
 
@@ -584,23 +875,23 @@ impl Pass {
         dag: &mut Dag,
         plan: &Plan,
         place: usize,
+        variable: usize,
         i: Instruction,
     ) -> Result<(), AllocError>
         requires plan { IsPlan plan.now }
         requires room { place + length self.old.pending.items < 2 ^ 64 }
         requires next { 0 < length self.old.pending.items }
         requires within { PassIn dag.old plan.now.code.now self.old }
-        requires place { place < 2 ^ 32 }
-        requires few { length plan.now.code.now.instructions < 2 ^ 33 }
+        requires variables { variable + variables_of plan.now.code.now.blocks i.operation ≤ 2 ^ 32 }
         requires fits { operation_fits plan.now.code.now.registers plan.now.code.now.blocks (length (drop (place + 1) plan.now.code.now.instructions)) i.operation ≡ true }
-        requires plain { is_static i.operation ≡ true }
         ensures extends { Extends dag.old dag.new }
-        ensures visits { OnOk result (Visits plan.now.until.items plan.now.code.now place i dag.old dag.new self.old self.new) }
+        ensures visits { OnOk result (Visits plan.now.until.items plan.now.code.now place variable i dag.old dag.new self.old self.new) }
     {
         match self.pending.pop_front() {
             Some(Some(slot)) => {
                 let here = Here {
                     place,
+                    variable,
                     line: i.line,
                     function: i.function,
                     slot,

@@ -7,7 +7,6 @@ ghost use Rattle.value_nodes.specs.Values.{IsWord};
 ghost use Rattle.cell_trees.specs.Trees.{span, Keeps};
 ghost use Rattle.goto_prog.specs.Fitting.{is_there, operation_fits};
 ghost use Rattle.goto_prog.specs.Running.{is_calculation};
-ghost use Rattle.goto_prog.specs.Static.{is_static};
 ghost use Rattle.c_types.specs.Integers.{width as type_width};
 ghost use Rattle.guarded_ssa.specs.inner.Results.{sets_register, into_of};
 ghost use Rattle.goto_prog.specs.Meaning.{register, with_register, calculated};
@@ -241,7 +240,6 @@ impl Slot {
         requires slot { SlotOf plan.now dag.old trees.old self }
         requires fits { operation_fits plan.now.code.now.registers plan.now.code.now.blocks 0 operation ≡ true }
         requires calculation { is_calculation operation ≡ true }
-        requires plain { is_static operation ≡ true }
         ensures extends { Extends dag.old dag.new }
         ensures keeps { Keeps trees.old trees.new }
         ensures within { IfOk result (SlotIn dag.new trees.new plan.now.code.now) }
@@ -262,7 +260,23 @@ impl Slot {
                 offset,
                 count,
             } => self.with_bytes_copied(dag, trees, plan, (into, at), (from, offset), count),
-            Operation::Use { .. } => Ok(self),
+            Operation::Take {
+                block,
+                at,
+                from,
+                offset,
+                count,
+                whole,
+            } => self.with_bytes_taken(dag, trees, plan, (block, at), (from, whole), offset, count),
+            Operation::Put {
+                block,
+                offset,
+                from,
+                at,
+                count,
+                whole,
+            } => self.with_bytes_put(dag, trees, plan, (block, whole), (from, at), offset, count),
+            Operation::Use { .. } | Operation::Same { .. } => Ok(self),
             // Every other calculation sets a register.
             _ => self.assigned(dag, trees, plan, operation),
         }
@@ -282,6 +296,10 @@ fn into_of(operation: Operation) -> usize
         Operation::Arithmetic { into, .. } => into,
         Operation::Compare { into, .. } => into,
         Operation::IsZero { into, .. } => into,
+        Operation::Move { into, .. } => into,
+        Operation::Offset { into, .. } => into,
+        Operation::Distance { into, .. } => into,
+        Operation::Relate { into, .. } => into,
         _ => 0,
     }
 }

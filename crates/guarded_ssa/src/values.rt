@@ -1,15 +1,15 @@
 //! The nodes of what operations calculate.
 
-ghost use Rattle.std.specs.Prelude.{◌≡◌, ℕ, true, ◌+◌, slice_index_or, is_some, IfOk};
+ghost use Rattle.std.specs.Prelude.{◌≡◌, ℕ, true, not, ◌+◌, slice_index_or, is_some, IfOk};
 ghost use Rattle.c_types.specs.Integers.{width as type_width};
 ghost use Rattle.core_tree.specs.Operations.{converted, sign_value, arithmetic_value};
 ghost use Rattle.c_values.specs.Numbers.{are_operands_of};
 ghost use Rattle.word_dag.specs.Growth.{Within, Extends};
 ghost use Rattle.word_dag.specs.Meaning.{value};
 ghost use Rattle.value_nodes.specs.Values.{IsWord, IsValue, IsTest};
-ghost use Rattle.goto_prog.specs.Fitting.{is_there, is_register, is_wide, check_fits, operation_fits};
-ghost use Rattle.goto_prog.specs.Meaning.{register, check_class};
-ghost use Rattle.goto_prog.specs.Static.{is_static_check};
+ghost use Rattle.goto_prog.specs.Fitting.{is_there, is_register, is_pointer, is_wide, check_fits, operation_fits};
+ghost use Rattle.goto_prog.specs.Meaning.{register, offset_moved, check_class};
+ghost use Rattle.c_values.specs.Pointers.{in_range, pointer_at};
 ghost use Rattle.guarded_ssa.specs.inner.Held.{SlotIn, held};
 ghost use Rattle.guarded_ssa.specs.inner.Conditions.{SlotOf};
 ghost use Rattle.guarded_ssa.specs.inner.Results.{sets_register, into_of, result_of, class_of};
@@ -22,8 +22,9 @@ use core_tree::{ArithmeticOperator, SignOperator};
 use goto_prog::{Condition, Operation};
 use std::alloc::AllocError;
 use value_nodes::{
-    arithmetic, compared, constant, converted, count_fails, is_zero, left_shift_fails,
-    negation_fails, quotient_fails, range_fails, sign, zero_test,
+    arithmetic, compared, constant, converted, count_fails, displaced, elements_between, is_zero,
+    leaves_range, left_shift_fails, lies_outside, moved, negation_fails, objects_differ,
+    offsets_compared, product_exceeds, quotient_fails, range_fails, sign, zero_test,
 };
 use word_dag::{Dag, Id};
 use words::Class;
@@ -61,6 +62,16 @@ impl Slot {
         ensures value { (v : ℕ → ℕ) → value v dag.now result ≡ register (held v dag.now trees.now plan.now.code.now self.now) r }
     {
         self.register(dag, trees, plan, r)
+    }
+
+    /// The node of a register for pointers and sizes.
+    pub fn pointer(&self, dag: &Dag, trees: &Trees, plan: &Plan, r: usize) -> Id
+        requires within { SlotIn dag.now trees.now plan.now.code.now self.now }
+        requires there { is_pointer plan.now.code.now.registers r ≡ true }
+        ensures word { IsWord dag.now result 64 }
+        ensures value { (v : ℕ → ℕ) → value v dag.now result ≡ register (held v dag.now trees.now plan.now.code.now self.now) r }
+    {
+        self.number(dag, trees, plan, r, IntegerType::UnsignedLong)
     }
 
     // What a conversion gives.
@@ -132,6 +143,28 @@ impl Slot {
         let a = self.number(dag, trees, plan, operands.0, types.0);
         let b = self.number(dag, trees, plan, operands.1, types.1);
         let id = arithmetic(dag, operator, types.0, types.1, a, b)?;
+        Ok(id)
+    }
+
+    // A pointer so many steps of an index further on.
+    fn pointer_moved(
+        &self,
+        dag: &mut Dag,
+        trees: &Trees,
+        plan: &Plan,
+        pointer: usize,
+        index: (IntegerType, usize),
+        step: i64,
+    ) -> Result<Id, AllocError>
+        requires within { SlotIn dag.old trees.now plan.now.code.now self.now }
+        requires pointer { is_pointer plan.now.code.now.registers pointer ≡ true }
+        requires index { is_register plan.now.code.now.registers index.1 index.0 ≡ true }
+        ensures extends { Extends dag.old dag.new }
+        ensures made { IfOk result (λ i. IsValue dag.new i 64 (λ v. pointer_at (register (held v dag.old trees.now plan.now.code.now self.now) pointer) (offset_moved (held v dag.old trees.now plan.now.code.now self.now) pointer index.1 index.0 step))) }
+    {
+        let p = self.pointer(dag, trees, plan, pointer);
+        let i = self.number(dag, trees, plan, index.1, index.0);
+        let id = moved(dag, p, index.0, i, step)?;
         Ok(id)
     }
 
@@ -207,8 +240,64 @@ impl Slot {
                 let a = self.register(dag, trees, plan, operand);
                 is_zero(dag, a)
             }
+            Operation::Move {
+                pointer,
+                index,
+                index_type,
+                step,
+                ..
+            } => self.pointer_moved(dag, trees, plan, pointer, (index_type, index), step),
+            Operation::Offset { pointer, count, .. } => {
+                let p = self.pointer(dag, trees, plan, pointer);
+                displaced(dag, p, count)
+            }
+            Operation::Distance {
+                left,
+                right,
+                step,
+                ..
+            } => {
+                let p = self.pointer(dag, trees, plan, left);
+                let q = self.pointer(dag, trees, plan, right);
+                elements_between(dag, p, q, step)
+            }
+            Operation::Relate {
+                operator,
+                left,
+                right,
+                ..
+            } => {
+                let p = self.pointer(dag, trees, plan, left);
+                let q = self.pointer(dag, trees, plan, right);
+                offsets_compared(dag, operator, p, q)
+            }
             _ => unreachable!(),
         }
+    }
+
+    // Whether the offset of a pointer, so many steps of an index further on, isn't from 0 to a size.
+    fn leaves_range(
+        &self,
+        dag: &mut Dag,
+        trees: &Trees,
+        plan: &Plan,
+        pointer: usize,
+        index: (IntegerType, usize),
+        step: i64,
+        size: usize,
+    ) -> Result<Id, AllocError>
+        requires within { SlotIn dag.old trees.now plan.now.code.now self.now }
+        requires pointer { is_pointer plan.now.code.now.registers pointer ≡ true }
+        requires index { is_register plan.now.code.now.registers index.1 index.0 ≡ true }
+        requires size { is_pointer plan.now.code.now.registers size ≡ true }
+        ensures extends { Extends dag.old dag.new }
+        ensures made { IfOk result (λ i. IsTest dag.new i (λ v. not (in_range (offset_moved (held v dag.old trees.now plan.now.code.now self.now) pointer index.1 index.0 step) (register (held v dag.old trees.now plan.now.code.now self.now) size)))) }
+    {
+        let p = self.pointer(dag, trees, plan, pointer);
+        let i = self.number(dag, trees, plan, index.1, index.0);
+        let n = self.pointer(dag, trees, plan, size);
+        let id = leaves_range(dag, p, index.0, i, step, n)?;
+        Ok(id)
     }
 
     /// Whether a check is broken.
@@ -222,7 +311,6 @@ impl Slot {
     ) -> Result<Id, AllocError>
         requires within { SlotIn dag.old trees.now plan.now.code.now self.now }
         requires fits { check_fits plan.now.code.now.registers condition ≡ true }
-        requires plain { is_static_check condition ≡ true }
         ensures extends { Extends dag.old dag.new }
         ensures made { IfOk result (λ i. IsTest dag.new i (λ v. is_some (check_class condition (held v dag.old trees.now plan.now.code.now self.now)))) }
     {
@@ -272,10 +360,32 @@ impl Slot {
                 let a = self.register(dag, trees, plan, returned);
                 zero_test(dag, a)
             }
-            Condition::Within { .. }
-            | Condition::SameObject { .. }
-            | Condition::Inside { .. }
-            | Condition::AtMost { .. } => unreachable!(),
+            Condition::Within {
+                pointer,
+                index,
+                index_type,
+                step,
+                size,
+                ..
+            } => self.leaves_range(dag, trees, plan, pointer, (index_type, index), step, size),
+            Condition::SameObject { left, right } => {
+                let p = self.pointer(dag, trees, plan, left);
+                let q = self.pointer(dag, trees, plan, right);
+                objects_differ(dag, p, q)
+            }
+            Condition::Inside {
+                offset,
+                count,
+                whole,
+            } => {
+                let p = self.pointer(dag, trees, plan, offset);
+                lies_outside(dag, p, count, whole)
+            }
+            Condition::AtMost { left, right, most } => {
+                let a = self.pointer(dag, trees, plan, left);
+                let b = self.pointer(dag, trees, plan, right);
+                product_exceeds(dag, a, b, most)
+            }
         }
     }
 }

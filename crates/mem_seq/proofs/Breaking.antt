@@ -1,7 +1,7 @@
 -- The run that a form gives under a valuation is a run of the file, and each run of the file that breaks a check is given by one.
 use Rattle.std.proofs.Common.{◌≡◌, ◌<◌, ◌+◌, ◌^◌, ℕ, zero, suc, Bool, true, false, List, [], ◌∷◌, ◌++◌, length, Option, Some, None, refl, sym, ◌∙◌, ap, subst, arith, true≢false, append_assoc, length-append, map}
-use Rattle.std.specs.Prelude.{All, slice_index, slice_get, nat_lt, ◌&&◌, if◌then◌else◌}
-use Rattle.std.proofs.lemmas.List.Elements.{All-head, All-tail, All-weaker}
+use Rattle.std.specs.Prelude.{slice_index, slice_get, nat_lt, ◌&&◌, if◌then◌else◌}
+use Rattle.std.proofs.lemmas.List.Elements.{All-head, All-tail}
 use Rattle.std.proofs.lemmas.Bool.Decides.{nat_tests}
 use Rattle.std.proofs.Math.Nat.{mod-eq_of_lt}
 use Rattle.words.specs.BitVector.{BitVector, word}
@@ -12,10 +12,9 @@ use Rattle.word_dag.specs.declared.nodes.Id.{Id}
 use Rattle.word_dag.specs.declared.nodes.Node.{Node}
 use Rattle.word_dag.specs.Meaning.{value, holds}
 use Rattle.word_dag.specs.Fitting.{is_ordered}
-use Rattle.word_dag.specs.Growth.{Within, Extends}
+use Rattle.word_dag.specs.Growth.{Extends}
 use Rattle.value_nodes.specs.Values.{IsWord, AreBytes}
 use Rattle.value_nodes.proofs.Made.{word_below}
-use Rattle.c_values.specs.Variables.{pointer_to}
 use Rattle.actions.specs.ByteList.{are_bytes}
 use Rattle.actions.specs.Objects.{Objects, bytes_at, with_bytes, break_in, write_break, unless_changed, after_write}
 use Rattle.actions.specs.declared.action.Action.{Action}
@@ -40,13 +39,14 @@ use Rattle.interleave.specs.Replay.{Replays, IsDrawnWhole, MovesTo, used_by}
 use Rattle.guarded_ssa.specs.declared.forms.Event.{Event}
 use Rattle.guarded_ssa.specs.declared.forms.EventKind.{EventKind}
 use Rattle.guarded_ssa.specs.declared.forms.EventKind.TheVariants as kinds
-use Rattle.guarded_ssa.specs.Runs.{Run, stops, asks, bytes_of_words}
-use Rattle.guarded_ssa.specs.Arrivals.{Seen, asked, stopped, read}
-use Rattle.guarded_ssa.specs.Forms.{kind_seen, event_seen, seen, run_read, Begins, IsForm, EventIn, KindIn, FormIn}
-use Rattle.guarded_ssa.specs.Accesses.{AreObjects, access_class, same_bytes, is_given, stored_by, unless, checked, agrees}
-use Rattle.guarded_ssa.specs.Happenings.{Happening, does, fails, happens, before, happened, AreDrawn, schedule_in, words_drawn, check_in}
+use Rattle.guarded_ssa.specs.Runs.{Run, stops, asks}
+use Rattle.guarded_ssa.specs.Arrivals.{Seen, stopped, read}
+use Rattle.guarded_ssa.specs.Forms.{kind_seen, event_seen, seen, run_read, Begins, IsForm, EventIn, KindIn, FormIn, IsStaticKind, AreStatic}
+use Rattle.guarded_ssa.proofs.Stays as kept
+use Rattle.guarded_ssa.specs.Accesses.{AreObjects, access_class, is_given, stored_by, unless, checked, agrees}
+use Rattle.guarded_ssa.specs.Happenings.{Happening, does, fails, happens, before, happened, AreDrawn, check_in}
 use Rattle.guarded_ssa.specs.Goals.{Happens}
-use Rattle.guarded_ssa.specs.Turns.{is_break, breaks, drawn_words, inputs_for, turns, end_check, broken_check, end_happens, happenings}
+use Rattle.guarded_ssa.specs.Turns.{is_break, breaks, drawn_words, inputs_for, turns, broken_check, end_happens, happenings}
 use Rattle.guarded_ssa.proofs.Accesses.{read_class, read_stored, read_given, read_holds, write_class, write_stored, write_given, draw_given}
 use Rattle.guarded_ssa.proofs.Told.{turns_told, check_told, words_told, others_draw, are_drawn}
 use Rattle.mem_seq.proofs.Stores.{left_true, right_true, same_itself, bytes_same, bytes_fit, write_leaves}
@@ -95,28 +95,35 @@ values_bytes v d (i ∷ ids) ordered words =
     λ k. first k && values_bytes v d ids ordered (All-tail (λ (k : Id). IsWord d k 8) i ids words) k
 
 module _ (v : ℕ → ℕ) (d : List Node) (ordered : is_ordered d ≡ true) where
-  quiet_kind : (line f : ℕ) (k : EventKind) (more : List Seen) → KindIn d k → OnlyQuiet (read more (stops (Ended (word_64 0)))) → OnlyQuiet (read (kind_seen v d line f k ++ more) (stops (Ended (word_64 0))))
-  quiet_kind line f (kinds.Draw bits answer) more there later = later
-  quiet_kind line f (kinds.Read object offset count answer) more there later = later
-  quiet_kind line f (kinds.Write object offset bytes) more there later = (values_bytes v d bytes ordered there, later)
-  quiet_kind line f kinds.Exit more there later = refl
-  quiet_kind line f (kinds.Check class failing) more there later = stop_or (holds (value v d failing)) where
+  quiet_kind : (line f : ℕ) (k : EventKind) (more : List Seen) → KindIn d k → IsStaticKind d k → OnlyQuiet (read more (stops (Ended (word_64 0)))) → OnlyQuiet (read (kind_seen v d line f k ++ more) (stops (Ended (word_64 0))))
+  quiet_kind line f (kinds.Draw bits answer) more there static later = later
+  quiet_kind line f (kinds.Fill count most words) more there static later = absurd static
+  quiet_kind line f (kinds.Read pointer count answer) more there static later = later
+  quiet_kind line f (kinds.Write pointer bytes first) more there static later = (values_bytes v d bytes ordered there.1, later)
+  quiet_kind line f (kinds.Look pointer subscript answer) more there static later = absurd static
+  quiet_kind line f (kinds.Alloc size bytes readonly heap answer) more there static later = absurd static
+  quiet_kind line f (kinds.Die pointer) more there static later = absurd static
+  quiet_kind line f (kinds.Free pointer) more there static later = absurd static
+  quiet_kind line f kinds.Exit more there static later = refl
+  quiet_kind line f (kinds.Check class failing) more there static later = stop_or (holds (value v d failing)) where
     stop_or : (b : Bool) → OnlyQuiet (read ((if b then stopped (Broken class line f) ∷ [] else []) ++ more) (stops (Ended (word_64 0))))
     stop_or true = tt
     stop_or false = later
-  quiet_kind line f (kinds.Assume failing) more there later = stop_or (holds (value v d failing)) where
+  quiet_kind line f (kinds.Assume failing) more there static later = stop_or (holds (value v d failing)) where
     stop_or : (b : Bool) → OnlyQuiet (read ((if b then stopped Blocked ∷ [] else []) ++ more) (stops (Ended (word_64 0))))
     stop_or true = tt
     stop_or false = later
 
-  quiet_event : (b : Bool) (line f : ℕ) (k : EventKind) (more : List Seen) → KindIn d k → OnlyQuiet (read more (stops (Ended (word_64 0))))
+  quiet_event : (b : Bool) (line f : ℕ) (k : EventKind) (more : List Seen) → KindIn d k → IsStaticKind d k → OnlyQuiet (read more (stops (Ended (word_64 0))))
       → OnlyQuiet (read ((if b then kind_seen v d line f k else []) ++ more) (stops (Ended (word_64 0))))
-  quiet_event true line f k more there later = quiet_kind line f k more there later
-  quiet_event false line f k more there later = later
+  quiet_event true line f k more there static later = quiet_kind line f k more there static later
+  quiet_event false line f k more there static later = later
 
-  pub read_quiet : (es : List Event) → FormIn d es → OnlyQuiet (run_read v d es)
-  read_quiet [] there = tt
-  read_quiet (e ∷ es) there = quiet_event (holds (value v d e.guard)) e.line e.function e.kind (seen v d es) (All-head (EventIn d) e es there).kind (read_quiet es (All-tail (EventIn d) e es there))
+  pub read_quiet : (es : List Event) → FormIn d es → AreStatic d es → OnlyQuiet (run_read v d es)
+  read_quiet [] there static = tt
+  read_quiet (e ∷ es) there static =
+      let Static : Event → Type 0 = λ ev. IsStaticKind d ev.kind in
+      quiet_event (holds (value v d e.guard)) e.line e.function e.kind (seen v d es) (All-head (EventIn d) e es there).kind (All-head Static e es static) (read_quiet es (All-tail (EventIn d) e es there) (All-tail Static e es static))
 
 ended_quiet : (xs : List Exchange) (next : Next) → Begins xs next (stops (Ended (word_64 0))) → IsQuiet next
 ended_quiet [] next begins = subst IsQuiet begins tt
@@ -135,8 +142,8 @@ begins_quiet (asks actions.Exit line f a rest) only [] next begins = subst IsQui
 begins_quiet (asks actions.Exit line f a rest) only (x ∷ xs) next begins = ended_quiet xs next (subst (λ (r : Run). Begins xs next r) only begins.4)
 begins_quiet (asks _ line f a rest) only xs next begins = absurd only
 
-pub form_quiet : (b : Behaviour) (d : List Node) (es : List Event) → is_ordered d ≡ true → FormIn d es → IsForm b d es → Quiets b
-form_quiet b d es ordered there form = λ xs next local. let h = form.has xs next local in begins_quiet (run_read h.0 d es) (read_quiet h.0 d ordered es there) xs next h.1
+pub form_quiet : (b : Behaviour) (d : List Node) (es : List Event) → is_ordered d ≡ true → FormIn d es → AreStatic d es → IsForm b d es → Quiets b
+form_quiet b d es ordered there static form = λ xs next local. let h = form.has xs next local in begins_quiet (run_read h.0 d es) (read_quiet h.0 d ordered es there static) xs next h.1
 
 -- ---- a run of the file that breaks a check is a local run whose reads get what the store holds, and what is next breaks it
 
@@ -573,30 +580,14 @@ run_happens t objects r only is agreed broken =
 
 -- ---- a graph that grows keeps what events tell
 
-values_stay : (v : ℕ → ℕ) (d e : List Node) (ids : List Id) → Extends d e → All (Within d) ids → map (value v e) ids ≡ map (value v d) ids
-values_stay v d e [] x there = refl
-values_stay v d e (i ∷ ids) x there = λ k. x.value_stays v i (All-head (Within d) i ids there) k ∷ values_stay v d e ids x (All-tail (Within d) i ids there) k
-
 pub kind_stays : (v : ℕ → ℕ) (d e : List Node) (line f : ℕ) (k : EventKind) → Extends d e → KindIn d k → kind_seen v e line f k ≡ kind_seen v d line f k
-kind_stays v d e line f (kinds.Draw bits answer) x there = λ k. asked (actions.Draw bits) line f (answers.Word (word bits (x.value_stays v answer there.0 k))) ∷ []
-kind_stays v d e line f (kinds.Read object offset count answer) x there = λ k. asked (actions.Read (pointer_to object offset) count) line f (answers.Bytes (bytes_of_words count (values_stay v d e answer x there.there k))) ∷ []
-kind_stays v d e line f (kinds.Write object offset bytes) x there = λ k. asked (actions.Write (pointer_to object offset) (values_stay v d e bytes x (All-weaker (λ (i : Id). IsWord d i 8) (Within d) (λ i word. word.there) bytes there) k) false) line f answers.Done ∷ []
-kind_stays v d e line f kinds.Exit x there = refl
-kind_stays v d e line f (kinds.Check class failing) x there = λ k. if holds (x.value_stays v failing there.there k) then stopped (Broken class line f) ∷ [] else []
-kind_stays v d e line f (kinds.Assume failing) x there = λ k. if holds (x.value_stays v failing there.there k) then stopped Blocked ∷ [] else []
+kind_stays v d e line f k x there = kept.kind_seen_stays d e x v line f k there
 
 pub event_stays : (v : ℕ → ℕ) (d e : List Node) (ev : Event) → Extends d e → EventIn d ev → event_seen v e ev ≡ event_seen v d ev
-event_stays v d e ev x there =
-    let guard = x.value_stays v ev.guard there.guard.there in
-    let kind = kind_stays v d e ev.line ev.function ev.kind x there.kind in
-    λ k. if holds (guard k) then kind k else []
+event_stays v d e ev x there = kept.event_stays d e x v ev there
 
 pub seen_stays : (v : ℕ → ℕ) (d e : List Node) (es : List Event) → Extends d e → FormIn d es → seen v e es ≡ seen v d es
-seen_stays v d e [] x there = refl
-seen_stays v d e (ev ∷ es) x there =
-    let first = event_stays v d e ev x (All-head (EventIn d) ev es there) in
-    let more = seen_stays v d e es x (All-tail (EventIn d) ev es there) in
-    λ k. first k ++ more k
+seen_stays v d e es x there = kept.seen_stays d e x v es there
 
 pub run_stays : (v : ℕ → ℕ) (d e : List Node) (es : List Event) → Extends d e → FormIn d es → run_read v e es ≡ run_read v d es
 run_stays v d e es x there = ap (λ told. read told (stops (Ended (word_64 0)))) (seen_stays v d e es x there)

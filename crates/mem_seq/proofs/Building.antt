@@ -1,9 +1,7 @@
 -- The goal of a formula, from the last event to the first.
-use Rattle.std.proofs.Common.{◌≡◌, ◌<◌, ◌≤◌, ◌+◌, ◌-◌, ℕ, zero, suc, Bool, true, false, ◌&&◌, ◌||◌, List, [], ◌∷◌, ◌++◌, length, get_or, map, take, drop, Option, Some, None, refl, sym, ◌∙◌, ap, subst, arith, append_assoc, append-nil}
+use Rattle.std.proofs.Common.{◌≡◌, ◌<◌, ◌≤◌, ◌+◌, ◌-◌, ℕ, zero, suc, Bool, true, false, ◌&&◌, ◌||◌, List, [], ◌∷◌, ◌++◌, length, get_or, take, drop, Option, Some, None, refl, sym, ◌∙◌, ap, subst, arith}
 use Rattle.std.specs.Prelude.{All, min, if◌then◌else◌}
 use Rattle.std.proofs.Math.Seq.{drop-cons}
-use Rattle.std.proofs.lemmas.List.{take_more}
-use Rattle.std.proofs.lemmas.List.Elements.{All-head, All-tail, All-weaker}
 use Rattle.words.specs.declared.check.Class.{Class}
 use Rattle.actions.specs.Behaviour.{Thread, word_64}
 use Rattle.actions.specs.Objects.{Objects}
@@ -12,12 +10,12 @@ use Rattle.actions.specs.declared.action.Answer.{Answer}
 use Rattle.actions.specs.declared.action.Next.TheVariants.{Ended}
 use Rattle.word_dag.specs.declared.nodes.Id.{Id}
 use Rattle.word_dag.specs.declared.nodes.Node.{Node}
-use Rattle.word_dag.specs.Meaning.{width, value, holds, bit_value}
+use Rattle.word_dag.specs.Meaning.{value, holds, bit_value}
 use Rattle.word_dag.specs.Fitting.{is_ordered}
-use Rattle.word_dag.specs.Growth.{Within, Extends}
+use Rattle.word_dag.specs.Growth.{Extends}
 use Rattle.word_dag.proofs.Grown.{extends_more}
 use Rattle.word_dag.proofs.Truth.{holds_bit}
-use Rattle.value_nodes.specs.Values.{IsWord, IsTest}
+use Rattle.value_nodes.specs.Values.{IsTest}
 use Rattle.words.specs.declared.check.Check.{Check}
 use Rattle.interleave.specs.declared.turn.Outcome.TheVariants.{Broken}
 use Rattle.interleave.specs.Inputs.{InputLists}
@@ -25,18 +23,17 @@ use Rattle.interleave.specs.World.{World, first_world, no_counts}
 use Rattle.interleave.specs.Run.{run}
 use Rattle.guarded_ssa.specs.declared.forms.Event.{Event}
 use Rattle.guarded_ssa.specs.declared.forms.EventKind.{EventKind}
-use Rattle.guarded_ssa.specs.declared.forms.EventKind.TheVariants as kinds
 use Rattle.guarded_ssa.specs.Runs.{Run, stops, asks}
 use Rattle.guarded_ssa.specs.Arrivals.{Seen, asked, stopped, read}
-use Rattle.guarded_ssa.specs.Forms.{kind_seen, event_seen, seen, run_read, Begins, Form, IsForm, IsBit, EventIn, KindIn, FormIn}
+use Rattle.guarded_ssa.specs.Forms.{kind_seen, event_seen, seen, run_read, Begins, Form, IsForm, IsBit, EventIn, KindIn, FormIn, IsStaticKind, AreStatic}
+use Rattle.guarded_ssa.proofs.Stays as kept
 use Rattle.guarded_ssa.specs.declared.formula.Formula.{Formula}
 use Rattle.mem_seq.specs.declared.memory.Note.{Note}
 use Rattle.mem_seq.specs.declared.memory.Note.TheVariants as notes
 use Rattle.guarded_ssa.specs.Accesses.{AreObjects, access_class, is_given, stored_by, unless, checked, agrees, behind}
-use Rattle.guarded_ssa.specs.Turns.{breaks, broken_check, happenings}
-use Rattle.guarded_ssa.specs.Happenings.{Happening, happened, check_in}
-use Rattle.guarded_ssa.proofs.Behind.{behind_append, seen_append, store_at, store_next}
-use Rattle.guarded_ssa.proofs.Told.{check_told}
+use Rattle.guarded_ssa.specs.Turns.{breaks, broken_check}
+use Rattle.guarded_ssa.specs.Happenings.{happened, check_in}
+use Rattle.guarded_ssa.proofs.Behind.{behind_append, store_at, store_next}
 use Rattle.mem_seq.specs.Goals.{breaks_or, breaks_from}
 use Rattle.mem_seq.specs.declared.chain.Chain.{Chain}
 use Rattle.mem_seq.specs.declared.chain.Part.{Part}
@@ -88,29 +85,23 @@ module _ (d e : List Node) (ev : Event) (stores : (ℕ → ℕ) → Objects) whe
 bit_stays : (d e : List Node) (i : Id) → Extends d e → IsBit d i → IsBit e i
 bit_stays d e i x bit = record { there = omega (arith, x.longer, bit.there); width_is = x.width_stays i bit.there ∙ bit.width_is }
 
-widths_stay : (d e : List Node) (ids : List Id) → Extends d e → All (Within d) ids → map (width e) ids ≡ map (width d) ids
-widths_stay d e [] x there = refl
-widths_stay d e (i ∷ ids) x there = λ k. x.width_stays i (All-head (Within d) i ids there) k ∷ widths_stay d e ids x (All-tail (Within d) i ids there) k
-
 pub kind_in_stays : (d e : List Node) (k : EventKind) → Extends d e → KindIn d k → KindIn e k
-kind_in_stays d e (kinds.Draw bits answer) x there = (omega (arith, x.longer, there.0), x.width_stays answer there.0 ∙ there.1)
-kind_in_stays d e (kinds.Read object offset count answer) x there = record {
-  there = All-weaker (Within d) (Within e) (λ i h. omega (arith, x.longer, h)) answer there.there;
-  widths = widths_stay d e answer x there.there ∙ there.widths;
-}
-kind_in_stays d e (kinds.Write object offset bytes) x there = All-weaker (λ (i : Id). IsWord d i 8) (λ (i : Id). IsWord e i 8) (λ i h. record { there = omega (arith, x.longer, h.there); width_is = x.width_stays i h.there ∙ h.width_is }) bytes there
-kind_in_stays d e kinds.Exit x there = tt
-kind_in_stays d e (kinds.Check class failing) x there = bit_stays d e failing x there
-kind_in_stays d e (kinds.Assume failing) x there = bit_stays d e failing x there
+kind_in_stays d e k x there = kept.kind_stays d e x k there
 
 pub event_in_stays : (d e : List Node) (ev : Event) → Extends d e → EventIn d ev → EventIn e ev
-event_in_stays d e ev x there = record { guard = bit_stays d e ev.guard x there.guard; kind = kind_in_stays d e ev.kind x there.kind }
+event_in_stays d e ev x there = kept.event_in_stays d e x ev there
+
+pub static_kind_stays : (d e : List Node) (k : EventKind) → Extends d e → IsStaticKind d k → IsStaticKind e k
+static_kind_stays d e k x static = kept.static_stays d e x k static
 
 pub form_in_stays : (d e : List Node) (es : List Event) → Extends d e → FormIn d es → FormIn e es
 form_in_stays d e es x there = λ k i l. event_in_stays d e (get_or es k i) x (there k i l)
 
 pub event_there : (d e : List Node) (es : List Event) (k : ℕ) (ev : Event) → Extends d e → FormIn d es → k < length es → ev ≡ get_or es k ev → EventIn e ev
 event_there d e es k ev x form lt is = event_in_stays d e ev x (subst (EventIn d) (sym is) (form k ev lt))
+
+pub static_there : (d e : List Node) (es : List Event) (k : ℕ) (ev : Event) → Extends d e → AreStatic d es → k < length es → ev ≡ get_or es k ev → IsStaticKind e ev.kind
+static_there d e es k ev x static lt is = static_kind_stays d e ev.kind x (subst (λ (i : Event). IsStaticKind d i.kind) (sym is) (static k ev lt))
 
 pub note_in_stays : (d e : List Node) (n : Note) → Extends d e → NoteIn d n → NoteIn e n
 note_in_stays d e notes.Passes x there = tt
@@ -239,7 +230,7 @@ one_true : (b : Bool) → bit_value b ≡ 1 → b ≡ true
 one_true true h = refl
 one_true false h = cc
 
-module _ (d e : List Node) (f : Formula) (t : Thread) (ordered : is_ordered d ≡ true) (x : Extends d e) (there : FormIn d f.form.events) (all : AreObjects f.form.store) (goal : IsTest e f.goal (λ v. breaks_in v d f.form)) (form : IsForm t.behaves d f.form.events) where
+module _ (d e : List Node) (f : Formula) (t : Thread) (ordered : is_ordered d ≡ true) (x : Extends d e) (there : FormIn d f.form.events) (static : AreStatic d f.form.events) (all : AreObjects f.form.store) (goal : IsTest e f.goal (λ v. breaks_in v d f.form)) (form : IsForm t.behaves d f.form.events) where
   abbrev objects : Objects
   objects = f.form.store
 
@@ -247,7 +238,7 @@ module _ (d e : List Node) (f : Formula) (t : Thread) (ordered : is_ordered d �
   first = first_world t objects
 
   abbrev quiets : Quiets t.behaves
-  quiets = form_quiet t.behaves d f.form.events ordered there form
+  quiets = form_quiet t.behaves d f.form.events ordered there static form
 
   stays : (v : ℕ → ℕ) → run_read v e f.form.events ≡ run_read v d f.form.events
   stays v = run_stays v d e f.form.events x there
@@ -262,7 +253,7 @@ module _ (d e : List Node) (f : Formula) (t : Thread) (ordered : is_ordered d �
   replayed v h =
       let r = run_read v e f.form.events in
       let whole_is = one_true (breaks_in v e f.form) (sym (is_true v) ∙ h) in
-      let only : OnlyQuiet r = subst OnlyQuiet (sym (stays v)) (read_quiet v d ordered f.form.events there) in (
+      let only : OnlyQuiet r = subst OnlyQuiet (sym (stays v)) (read_quiet v d ordered f.form.events there static) in (
         broken_check (checked objects r),
         run_happens t objects r only (whole r t.behaves (λ xs next begins. form.gives v xs next (subst (λ (r : Run). Begins xs next r) (stays v) begins)))
             (left_true (agrees objects (checked objects r)) (breaks (checked objects r)) whole_is) (right_true (agrees objects (checked objects r)) (breaks (checked objects r)) whole_is),
@@ -278,7 +269,7 @@ module _ (d e : List Node) (f : Formula) (t : Thread) (ordered : is_ordered d �
       let h = form.has F.exchanges F.next F.local in
       let v = h.0 in
       let r = run_read v e f.form.events in
-      let only : OnlyQuiet r = subst OnlyQuiet (sym (stays v)) (read_quiet v d ordered f.form.events there) in
+      let only : OnlyQuiet r = subst OnlyQuiet (sym (stays v)) (read_quiet v d ordered f.form.events there static) in
       let b = begins_break r objects F.exchanges F.next check (quiet_ends r only) (subst (λ (r : Run). Begins F.exchanges F.next r) (sym (stays v)) h.1) F.ends in
       (v, makes_true v b.agreed b.broken, b.told_is ∙ sym F.told_is, ap check_in b.told_is ∙ told_check F.exchanges check)
 
@@ -300,6 +291,9 @@ form_in_later d e es own same x there = subst (FormIn e) (sym same) (form_in_sta
 pub formula_in : (d m e : List Node) (f : Formula) (given : Form) (test : (ℕ → ℕ) → Bool) → f.form ≡ given → Extends d m → Extends m e → FormIn d given.events → IsTest e f.goal test → FormulaIn e f
 formula_in d m e f given test same x y there goal =
     record { there = goal.there; width_is = goal.width_is; form = form_in_later d e given.events f.form.events (ap (λ (g : Form). g.events) same) (extends_more d m e x y) there }
+
+pub static_later : (d e : List Node) (own given : Form) → own ≡ given → Extends d e → AreStatic d given.events → AreStatic e own.events
+static_later d e own given same x static = subst (λ (f : Form). AreStatic e f.events) (sym same) (kept.all_static_stay d e x given.events static)
 
 -- a form of a thread is one in a larger graph too
 pub is_form_later : (d m e : List Node) (own given : Form) (t : Thread) → own ≡ given → Extends d m → Extends m e → FormIn d given.events → IsForm t.behaves d given.events → IsForm t.behaves e own.events

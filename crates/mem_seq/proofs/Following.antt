@@ -15,7 +15,8 @@ use Rattle.rewritten_nodes.specs.declared.known.Known.{Known}
 use Rattle.rewritten_nodes.specs.Images.{KnownIn, Agrees}
 use Rattle.guarded_ssa.specs.declared.forms.Event.{Event}
 use Rattle.guarded_ssa.specs.Arrivals.{Seen, asked, stopped}
-use Rattle.guarded_ssa.specs.Forms.{event_seen, seen, run_read, EventIn, FormIn, Form, IsForm}
+use Rattle.guarded_ssa.specs.Forms.{event_seen, seen, run_read, EventIn, FormIn, Form, IsForm, IsStaticKind, AreStatic}
+use Rattle.guarded_ssa.proofs.Stays.{all_static_stay}
 use Rattle.interleave.specs.World.{first_world}
 use Rattle.guarded_ssa.specs.declared.formula.Formula.{Formula}
 use Rattle.mem_seq.specs.declared.memory.Memory.{Memory}
@@ -73,6 +74,7 @@ pub record Following (d e : List Node) (store : Objects) (es : List Event) (m : 
   pub memory_in : MemoryIn e m
   pub known_in : KnownIn e known
   pub form : FormIn e others
+  pub plain : AreStatic e others
   pub notes_in : All (NoteIn e) ns
   pub stands : (v : ℕ → ℕ) → StandsFor v e m (behind store (seen v e others))
   pub notes : AreNotes (λ v. store) e others ns
@@ -89,6 +91,7 @@ following_none d store es m known others ns memory_in stands known_in agrees non
       memory_in = memory_in;
       known_in = known_in;
       form = subst (FormIn d) (sym none) (All-nil (EventIn d));
+      plain = subst (AreStatic d) (sym none) (All-nil (λ (i : Event). IsStaticKind d i.kind));
       notes_in = subst (All (NoteIn d)) (sym no_notes) (All-nil (NoteIn d));
       stands = λ v. subst (λ (s : List Seen). StandsFor v d m (behind store s)) (sym (told v)) (stands v);
       notes = subst (AreNotes (λ v. store) d others) (sym no_notes) (subst (λ (xs : List Event). AreNotes (λ v. store) d xs []) (sym none) tt);
@@ -103,7 +106,7 @@ by_given true f h = f refl
 by_given false f h = h refl
 
 module _ (d e f : List Node) (store : Objects) (es : List Event) (m n : Memory) (known next : Known) (others more : List Event) (ns noted : List Note) (ev other : Event) (note : Note) (k : ℕ) (in_ : FormIn d es) (c : Following d e store es m known others ns k) (lt : k < length es)
-    (is : ev ≡ get_or es k ev) (x : Extends e f) (memory_in : MemoryIn f n) (known_in : KnownIn f next) (other_in : EventIn f other) (note_in : NoteIn f note)
+    (is : ev ≡ get_or es k ev) (x : Extends e f) (memory_in : MemoryIn f n) (known_in : KnownIn f next) (other_in : EventIn f other) (other_static : IsStaticKind f other.kind) (note_in : NoteIn f note)
     (is_note : (stores : (ℕ → ℕ) → Objects) → ((v : ℕ → ℕ) → StandsFor v e m (stores v)) → IsNote stores f other note)
     (behind_is : (v : ℕ → ℕ) (objects : Objects) → StandsFor v e m objects → StandsFor v f n (behind objects (event_seen v f other)))
     (same_is : (v : ℕ → ℕ) → Agrees v e known → event_seen v f other ≡ event_seen v e ev)
@@ -160,6 +163,7 @@ module _ (d e f : List Node) (store : Objects) (es : List Event) (m n : Memory) 
     memory_in = memory_in;
     known_in = known_in;
     form = subst (FormIn f) (sym more_is) (All-push (EventIn f) others other (form_in_stays e f others x c.form) other_in);
+    plain = subst (AreStatic f) (sym more_is) (All-push (λ (i : Event). IsStaticKind f i.kind) others other (all_static_stay e f x others c.plain) other_static);
     notes_in = subst (All (NoteIn f)) (sym noted_is) (All-push (NoteIn f) ns note (All-weaker (NoteIn e) (NoteIn f) (λ i h. note_in_stays e f i x h) ns c.notes_in) note_in);
     stands = λ v. subst (StandsFor v f n) (sym (behind_append store (seen v e others) (event_seen v f other)) ∙ ap (behind store) (sym (other_told v))) (behind_is v (behind store (seen v e others)) (c.stands v));
     notes =
@@ -193,18 +197,18 @@ test_of_others d m e goal given first store own others es first_is store_is own_
 
 -- what is so of a formula over a form is so where the form is given
 by_form : (Q : (f : Form) → Type 0) (d : List Node) (f given : Form) (goal : (g : Form) → Type 0) (t : Thread) → f ≡ given
-    → (FormIn d f.events → goal f → AreObjects f.store → IsForm t.behaves d f.events → Q f)
-    → FormIn d given.events → goal given → AreObjects given.store → IsForm t.behaves d given.events → Q given
+    → (FormIn d f.events → AreStatic d f.events → goal f → AreObjects f.store → IsForm t.behaves d f.events → Q f)
+    → FormIn d given.events → AreStatic d given.events → goal given → AreObjects given.store → IsForm t.behaves d given.events → Q given
 by_form Q d f given goal t same made =
-    let P : Form → Type 0 = λ g. FormIn d g.events → goal g → AreObjects g.store → IsForm t.behaves d g.events → Q g in
+    let P : Form → Type 0 = λ g. FormIn d g.events → AreStatic d g.events → goal g → AreObjects g.store → IsForm t.behaves d g.events → Q g in
     subst P same made
 
-pub formula_over : (d e : List Node) (f : Formula) (given : Form) (t : Thread) → f.form ≡ given → is_ordered d ≡ true → Extends d e → FormIn d given.events → IsTest e f.goal (λ v. breaks_in v d given) → AreObjects given.store → IsForm t.behaves d given.events
+pub formula_over : (d e : List Node) (f : Formula) (given : Form) (t : Thread) → f.form ≡ given → is_ordered d ≡ true → Extends d e → FormIn d given.events → AreStatic d given.events → IsTest e f.goal (λ v. breaks_in v d given) → AreObjects given.store → IsForm t.behaves d given.events
     → IsFormula (first_world t given.store) e f
 formula_over d e f given t same ordered x =
-    by_form (λ g. IsFormula (first_world t g.store) e f) d f.form given (λ g. IsTest e f.goal (λ v. breaks_in v d g)) t same (λ there test all form. is_formula d e f t ordered x there all test form)
+    by_form (λ g. IsFormula (first_world t g.store) e f) d f.form given (λ g. IsTest e f.goal (λ v. breaks_in v d g)) t same (λ there static test all form. is_formula d e f t ordered x there static all test form)
 
-pub goal_over : (d e : List Node) (f : Formula) (given : Form) (t : Thread) → f.form ≡ given → is_ordered d ≡ true → Extends d e → FormIn d given.events → IsTest e f.goal (λ v. breaks_in v d given) → AreObjects given.store → IsForm t.behaves d given.events
+pub goal_over : (d e : List Node) (f : Formula) (given : Form) (t : Thread) → f.form ≡ given → is_ordered d ≡ true → Extends d e → FormIn d given.events → AreStatic d given.events → IsTest e f.goal (λ v. breaks_in v d given) → AreObjects given.store → IsForm t.behaves d given.events
     → IsGoal (first_world t given.store) e f.goal (told_by e f.form)
 goal_over d e f given t same ordered x =
-    by_form (λ g. IsGoal (first_world t g.store) e f.goal (told_by e f.form)) d f.form given (λ g. IsTest e f.goal (λ v. breaks_in v d g)) t same (λ there test all form. is_goal d e f t ordered x there all test form)
+    by_form (λ g. IsGoal (first_world t g.store) e f.goal (told_by e f.form)) d f.form given (λ g. IsTest e f.goal (λ v. breaks_in v d g)) t same (λ there static test all form. is_goal d e f t ordered x there static all test form)

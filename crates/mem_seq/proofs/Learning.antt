@@ -12,7 +12,7 @@ use Rattle.actions.specs.Objects.{Objects, bytes_at}
 use Rattle.actions.specs.declared.action.Action.TheVariants as actions
 use Rattle.actions.specs.declared.action.Answer.TheVariants as answers
 use Rattle.actions.specs.declared.action.Next.TheVariants.{Blocked, Broken}
-use Rattle.c_values.specs.Variables.{pointer_to, word_count}
+use Rattle.c_values.specs.Variables.{word_count}
 use Rattle.word_dag.specs.declared.nodes.Id.{Id}
 use Rattle.word_dag.specs.declared.nodes.Node.{Node}
 use Rattle.word_dag.specs.declared.nodes.Node.TheVariants.{Variable}
@@ -33,7 +33,7 @@ use Rattle.guarded_ssa.specs.declared.forms.EventKind.{EventKind}
 use Rattle.guarded_ssa.specs.declared.forms.EventKind.TheVariants as kinds
 use Rattle.guarded_ssa.specs.Arrivals.{Seen, asked, stopped}
 use Rattle.guarded_ssa.specs.Runs.{bytes_of_words}
-use Rattle.guarded_ssa.specs.Forms.{AreWords, IsBit, KindIn, EventIn, kind_seen, event_seen}
+use Rattle.guarded_ssa.specs.Forms.{AreWords, IsBit, KindIn, EventIn, IsFixed, IsStaticKind, kind_seen, event_seen}
 use Rattle.guarded_ssa.proofs.AnswerWords.{bytes_left, words_length}
 use Rattle.actions.specs.declared.action.Action.TheVariants as actions
 use Rattle.actions.specs.declared.action.Answer.TheVariants as answers
@@ -119,9 +119,9 @@ deciding_values d guard ids sides n done c v is =
 -- ---- kinds and events
 
 module _ (v : ℕ → ℕ) (d e : List Node) (line f : ℕ) (k : EventKind) where
-  pub same_write : (object offset : ℕ) (bytes images : List Id) → k ≡ kinds.Write object offset bytes → map (value v e) images ≡ map (value v d) bytes → kind_seen v e line f (kinds.Write object offset images) ≡ kind_seen v d line f k
-  same_write object offset bytes images is same =
-      (λ i. asked (actions.Write (pointer_to object offset) (same i) false) line f answers.Done ∷ []) ∙ ap (kind_seen v d line f) (sym is)
+  pub same_write : (pointer : Id) (bytes images : List Id) (first : Bool) → k ≡ kinds.Write pointer bytes first → value v e pointer ≡ value v d pointer → map (value v e) images ≡ map (value v d) bytes → kind_seen v e line f (kinds.Write pointer images first) ≡ kind_seen v d line f k
+  same_write pointer bytes images first is place same =
+      (λ i. asked (actions.Write (place i) (same i) first) line f answers.Done ∷ []) ∙ ap (kind_seen v d line f) (sym is)
 
   pub same_check : (class : Class) (failing i : Id) → k ≡ kinds.Check class failing → value v e i ≡ value v d failing → kind_seen v e line f (kinds.Check class i) ≡ kind_seen v d line f k
   same_check class failing i is same = (λ j. if holds (same j) then stopped (Broken class line f) ∷ [] else []) ∙ ap (kind_seen v d line f) (sym is)
@@ -141,8 +141,17 @@ check_bit d k class failing is there = subst (KindIn d) is there
 pub assume_bit : (d : List Node) (k : EventKind) (failing : Id) → k ≡ kinds.Assume failing → KindIn d k → IsBit d failing
 assume_bit d k failing is there = subst (KindIn d) is there
 
-pub write_bytes : (d : List Node) (k : EventKind) (object offset : ℕ) (bytes ids : List Id) → k ≡ kinds.Write object offset bytes → ids ≡ bytes → KindIn d k → AreBytes d ids
-write_bytes d k object offset bytes ids is same there = subst (AreBytes d) (sym same) (subst (KindIn d) is there)
+pub write_bytes : (d : List Node) (k : EventKind) (pointer : Id) (bytes ids : List Id) (first : Bool) → k ≡ kinds.Write pointer bytes first → ids ≡ bytes → KindIn d k → AreBytes d ids
+write_bytes d k pointer bytes ids first is same there = subst (AreBytes d) (sym same) (let own : KindIn d (kinds.Write pointer bytes first) = subst (KindIn d) is there in own.1)
+
+pub write_pointer : (d : List Node) (k : EventKind) (pointer : Id) (bytes : List Id) (first : Bool) → k ≡ kinds.Write pointer bytes first → KindIn d k → IsWord d pointer 64
+write_pointer d k pointer bytes first is there = let own : KindIn d (kinds.Write pointer bytes first) = subst (KindIn d) is there in own.0
+
+pub written_pointer : (d : List Node) (k : EventKind) (pointer : Id) (bytes : List Id) (first : Bool) → k ≡ kinds.Write pointer bytes first → IsStaticKind d k → IsFixed d pointer
+written_pointer d k pointer bytes first is static = let own : IsStaticKind d (kinds.Write pointer bytes first) = subst (IsStaticKind d) is static in own.0
+
+pub read_pointer : (d : List Node) (k : EventKind) (pointer : Id) (count : ℕ) (answer : List Id) → k ≡ kinds.Read pointer count answer → IsStaticKind d k → IsFixed d pointer
+read_pointer d k pointer count answer is static = subst (IsStaticKind d) is static
 
 pub same_event : (v : ℕ → ℕ) (d d1 e : List Node) (ev : Event) (guard : Id) (kind : EventKind) → Extends d d1 → Extends d1 e → EventIn d ev → Within d1 guard → value v d1 guard ≡ value v d ev.guard → kind_seen v e ev.line ev.function kind ≡ kind_seen v d1 ev.line ev.function ev.kind
     → event_seen v e (record { guard = guard; line = ev.line; function = ev.function; kind = kind }) ≡ event_seen v d ev
@@ -282,21 +291,23 @@ if_is : (b : Bool) (objects : Objects) (told : List Seen) → b ≡ true → giv
 if_is true objects told h g = g
 if_is false objects told h g = absurd (let wrong : false ≡ true = h in cc)
 
-pub read_learned : (v : ℕ → ℕ) (d d1 : List Node) (ev : Event) (object offset count p : ℕ) (answer words held nodes : List Id) (objects : Objects) → Extends d d1 → EventIn d ev → ev.kind ≡ kinds.Read object offset count answer → p ≡ pointer_to object offset
+pub read_learned : (v : ℕ → ℕ) (d d1 : List Node) (ev : Event) (pointer : Id) (count p : ℕ) (answer words held nodes : List Id) (objects : Objects) → Extends d d1 → EventIn d ev → ev.kind ≡ kinds.Read pointer count answer → value v d pointer ≡ p
     → words ≡ answer → nodes ≡ held → length held ≡ count → map (value v d1) held ≡ bytes_at objects p count → gives objects (event_seen v d ev) ≡ true → holds (value v d1 ev.guard) ≡ true → are_given v d1 words nodes ≡ true
-read_learned v d d1 ev object offset count p answer words held nodes objects x within is p_is words_are nodes_are size held_is told guard_is =
-    let there : AreWords d count answer = subst (KindIn d) is within.kind in
+read_learned v d d1 ev pointer count p answer words held nodes objects x within is p_is words_are nodes_are size held_is told guard_is =
+    let own : KindIn d (kinds.Read pointer count answer) = subst (KindIn d) is within.kind in
+    let there : AreWords d count answer = own.1 in
     let here : holds (value v d ev.guard) ≡ true = ap holds (sym (x.value_stays v ev.guard within.guard.there)) ∙ guard_is in
     let tells : gives objects (kind_seen v d ev.line ev.function ev.kind) ≡ true = if_is (holds (value v d ev.guard)) objects (kind_seen v d ev.line ev.function ev.kind) here told in
-    let q = pointer_to object offset in
+    let q = value v d pointer in
     let bs = bytes_of_words count (map (value v d) answer) in
     let reads : (is_given objects (actions.Read q count) (answers.Bytes bs) && true) ≡ true = ap (λ (j : EventKind). gives objects (kind_seen v d ev.line ev.function j)) (sym is) ∙ tells in
     let long : length nodes ≡ count = ap length nodes_are ∙ size in
     let words_is : map (value v d1) words ≡ map (value v d) answer = ap (map (value v d1)) words_are ∙ map_stays v d d1 answer x there.there in
-    let bytes_is : map (value v d1) nodes ≡ bytes_at objects (pointer_to object offset) count = ap (map (value v d1)) nodes_are ∙ held_is ∙ ap (λ q. bytes_at objects q count) p_is in
+    let bytes_is : map (value v d1) nodes ≡ bytes_at objects q count = ap (map (value v d1)) nodes_are ∙ held_is ∙ ap (λ r. bytes_at objects r count) (sym p_is) in
     (λ i. same_bytes (bytes_of_words (long i) (words_is i)) (bytes_is i)) ∙ read_holds objects q count bs (left_true (is_given objects (actions.Read q count) (answers.Bytes bs)) true reads)
 
-pub read_words : (d d1 : List Node) (k : EventKind) (object offset count : ℕ) (answer words held nodes : List Id) → Extends d d1 → KindIn d k → k ≡ kinds.Read object offset count answer → words ≡ answer → nodes ≡ held → length held ≡ count → AreWords d1 (length nodes) words
-read_words d d1 k object offset count answer words held nodes x within is words_are nodes_are size =
-    let there : AreWords d count answer = subst (KindIn d) is within in
+pub read_words : (d d1 : List Node) (k : EventKind) (pointer : Id) (count : ℕ) (answer words held nodes : List Id) → Extends d d1 → KindIn d k → k ≡ kinds.Read pointer count answer → words ≡ answer → nodes ≡ held → length held ≡ count → AreWords d1 (length nodes) words
+read_words d d1 k pointer count answer words held nodes x within is words_are nodes_are size =
+    let own : KindIn d (kinds.Read pointer count answer) = subst (KindIn d) is within in
+    let there : AreWords d count answer = own.1 in
     subst (λ (ids : List Id). AreWords d1 (length nodes) ids) (sym words_are) (words_in_stay d d1 count (length nodes) answer x there (ap length nodes_are ∙ size))

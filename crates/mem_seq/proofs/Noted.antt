@@ -7,7 +7,6 @@ use Rattle.words.specs.declared.check.Class.{Class}
 use Rattle.words.specs.declared.check.Class.TheVariants.{Null, InvalidPointer}
 use Rattle.actions.specs.Pointer.{object_of}
 use Rattle.actions.specs.Objects.{Objects, bytes_at, with_bytes, break_in, unless_changed}
-use Rattle.c_values.specs.Variables.{pointer_to}
 use Rattle.word_dag.specs.declared.nodes.Id.{Id}
 use Rattle.word_dag.specs.declared.nodes.Node.{Node}
 use Rattle.word_dag.specs.Meaning.{value, holds}
@@ -18,7 +17,7 @@ use Rattle.guarded_ssa.specs.declared.forms.EventKind.{EventKind}
 use Rattle.guarded_ssa.specs.declared.forms.EventKind.TheVariants as kinds
 use Rattle.guarded_ssa.specs.Arrivals.{Seen, stopped}
 use Rattle.guarded_ssa.specs.Runs.{bytes_of_words}
-use Rattle.guarded_ssa.specs.Forms.{kind_seen, event_seen, seen, EventIn, FormIn}
+use Rattle.guarded_ssa.specs.Forms.{kind_seen, event_seen, seen, EventIn, FormIn, IsStaticKind}
 use Rattle.actions.specs.declared.action.Next.{Next}
 use Rattle.actions.specs.declared.action.Next.TheVariants.{Blocked, Broken}
 use Rattle.mem_seq.specs.declared.memory.Memory.{Memory}
@@ -82,9 +81,9 @@ module _ (v : ℕ → ℕ) (d : List Node) (line f : ℕ) (objects : Objects) (k
   pub draw_leaves : (bits : ℕ) (answer : Id) → k ≡ kinds.Draw bits answer → behind objects (kind_seen v d line f k) ≡ objects
   draw_leaves bits answer is = ap (λ (j : EventKind). behind objects (kind_seen v d line f j)) is
 
-  pub read_leaves : (object offset count : ℕ) (answer : List Id) → k ≡ kinds.Read object offset count answer → behind objects (kind_seen v d line f k) ≡ objects
-  read_leaves object offset count answer is =
-      ap (λ (j : EventKind). behind objects (kind_seen v d line f j)) is ∙ read_stored objects (pointer_to object offset) count (answers.Bytes (bytes_of_words count (map (value v d) answer)))
+  pub read_leaves : (pointer : Id) (count : ℕ) (answer : List Id) → k ≡ kinds.Read pointer count answer → behind objects (kind_seen v d line f k) ≡ objects
+  read_leaves pointer count answer is =
+      ap (λ (j : EventKind). behind objects (kind_seen v d line f j)) is ∙ read_stored objects (value v d pointer) count (answers.Bytes (bytes_of_words count (map (value v d) answer)))
 
   pub exit_leaves : k ≡ kinds.Exit → behind objects (kind_seen v d line f k) ≡ objects
   exit_leaves is = ap (λ (j : EventKind). behind objects (kind_seen v d line f j)) is
@@ -95,18 +94,24 @@ module _ (v : ℕ → ℕ) (d : List Node) (line f : ℕ) (objects : Objects) (k
   pub assume_leaves : (failing : Id) → k ≡ kinds.Assume failing → behind objects (kind_seen v d line f k) ≡ objects
   assume_leaves failing is = ap (λ (j : EventKind). behind objects (kind_seen v d line f j)) is ∙ ends_or (holds (value v d failing)) objects Blocked
 
-  pub broken_write_leaves : (object offset p : ℕ) (bytes : List Id) → k ≡ kinds.Write object offset bytes → p ≡ pointer_to object offset → is_some (break_in objects true p (length bytes)) ≡ true → behind objects (kind_seen v d line f k) ≡ objects
-  broken_write_leaves object offset p bytes is p_is broken =
-      let same : break_in objects true p (length bytes) ≡ break_in objects true (pointer_to object offset) (length (map (value v d) bytes)) = (λ i. break_in objects true (p_is i) (sym (length-map bytes (value v d)) i)) in
-      ap (λ (j : EventKind). behind objects (kind_seen v d line f j)) is ∙ write_stored objects (pointer_to object offset) (map (value v d) bytes) false answers.Done
-      ∙ unchanged (break_in objects true (pointer_to object offset) (length (map (value v d) bytes))) objects (with_bytes objects (pointer_to object offset) (map (value v d) bytes)) (sym (ap is_some same) ∙ broken)
+  pub broken_write_leaves : (pointer : Id) (p : ℕ) (bytes : List Id) → k ≡ kinds.Write pointer bytes false → value v d pointer ≡ p → is_some (break_in objects true p (length bytes)) ≡ true → behind objects (kind_seen v d line f k) ≡ objects
+  broken_write_leaves pointer p bytes is p_is broken =
+      let q = value v d pointer in
+      let same : break_in objects true p (length bytes) ≡ break_in objects true q (length (map (value v d) bytes)) = (λ i. break_in objects true (sym p_is i) (sym (length-map bytes (value v d)) i)) in
+      ap (λ (j : EventKind). behind objects (kind_seen v d line f j)) is ∙ write_stored objects q (map (value v d) bytes) false answers.Done
+      ∙ unchanged (break_in objects true q (length (map (value v d) bytes))) objects (with_bytes objects q (map (value v d) bytes)) (sym (ap is_some same) ∙ broken)
 
-  pub write_leaves : (object offset p : ℕ) (bytes new : List Id) → k ≡ kinds.Write object offset bytes → p ≡ pointer_to object offset → new ≡ bytes → break_in objects true p (length new) ≡ None → behind objects (kind_seen v d line f k) ≡ with_bytes objects p (map (value v d) new)
-  write_leaves object offset p bytes new is p_is new_is fine =
-      let same : break_in objects true p (length new) ≡ break_in objects true (pointer_to object offset) (length (map (value v d) bytes)) = (λ i. break_in objects true (p_is i) (length (new_is i))) ∙ ap (break_in objects true (pointer_to object offset)) (sym (length-map bytes (value v d))) in
-      ap (λ (j : EventKind). behind objects (kind_seen v d line f j)) is ∙ write_stored objects (pointer_to object offset) (map (value v d) bytes) false answers.Done
-      ∙ ap (λ (c : Option Class). unless_changed c objects (with_bytes objects (pointer_to object offset) (map (value v d) bytes))) (sym same ∙ fine)
-      ∙ (λ i. with_bytes objects (sym p_is i) (map (value v d) (sym new_is i)))
+  pub write_leaves : (pointer : Id) (p : ℕ) (bytes new : List Id) → k ≡ kinds.Write pointer bytes false → value v d pointer ≡ p → new ≡ bytes → break_in objects true p (length new) ≡ None → behind objects (kind_seen v d line f k) ≡ with_bytes objects p (map (value v d) new)
+  write_leaves pointer p bytes new is p_is new_is fine =
+      let q = value v d pointer in
+      let same : break_in objects true p (length new) ≡ break_in objects true q (length (map (value v d) bytes)) = (λ i. break_in objects true (sym p_is i) (length (new_is i))) ∙ ap (break_in objects true q) (sym (length-map bytes (value v d))) in
+      ap (λ (j : EventKind). behind objects (kind_seen v d line f j)) is ∙ write_stored objects q (map (value v d) bytes) false answers.Done
+      ∙ ap (λ (c : Option Class). unless_changed c objects (with_bytes objects q (map (value v d) bytes))) (sym same ∙ fine)
+      ∙ (λ i. with_bytes objects (p_is i) (map (value v d) (sym new_is i)))
+
+-- a write of a static object doesn't initialize it
+pub written_kind : (d : List Node) (k : EventKind) (pointer : Id) (bytes : List Id) (first : Bool) → k ≡ kinds.Write pointer bytes first → IsStaticKind d k → k ≡ kinds.Write pointer bytes false
+written_kind d k pointer bytes first is static = is ∙ ap (kinds.Write pointer bytes) (let own : IsStaticKind d (kinds.Write pointer bytes first) = subst (IsStaticKind d) is static in own.1)
 
 -- ---- notes
 
@@ -129,39 +134,42 @@ module _ (e : List Node) (ev : Event) (stores : (ℕ → ℕ) → Objects) where
   pub assume_note : (failing : Id) → ev.kind ≡ kinds.Assume failing → IsNote stores e ev notes.Alone
   assume_note failing is = alone_as (kinds.Assume failing) is (λ v later. alone_or (holds (value v e failing)) (stores v) Blocked later)
 
-  pub broken_read_note : (object offset count p : ℕ) (answer : List Id) → ev.kind ≡ kinds.Read object offset count answer → p ≡ pointer_to object offset → ((v : ℕ → ℕ) → is_some (break_in (stores v) false p count) ≡ true) → IsNote stores e ev notes.Breaks
-  broken_read_note object offset count p answer is p_is broken v later =
-      let q = pointer_to object offset in
+  pub broken_read_note : (pointer : Id) (count p : ℕ) (answer : List Id) → ev.kind ≡ kinds.Read pointer count answer → ((v : ℕ → ℕ) → value v e pointer ≡ p) → ((v : ℕ → ℕ) → is_some (break_in (stores v) false p count) ≡ true) → IsNote stores e ev notes.Breaks
+  broken_read_note pointer count p answer is p_is broken v later =
+      let q = value v e pointer in
       let a = answers.Bytes (bytes_of_words count (map (value v e) answer)) in
-      told_as (kinds.Read object offset count answer) is v later
-      ∙ some_broken (access_class (stores v) (actions.Read q count) a) _ (ap is_some (read_class (stores v) q count a) ∙ ap (λ r. is_some (break_in (stores v) false r count)) (sym p_is) ∙ broken v)
+      told_as (kinds.Read pointer count answer) is v later
+      ∙ some_broken (access_class (stores v) (actions.Read q count) a) _ (ap is_some (read_class (stores v) q count a) ∙ ap (λ r. is_some (break_in (stores v) false r count)) (p_is v) ∙ broken v)
 
-  pub broken_write_note : (object offset p : ℕ) (bytes : List Id) → ev.kind ≡ kinds.Write object offset bytes → p ≡ pointer_to object offset → ((v : ℕ → ℕ) → is_some (break_in (stores v) true p (length bytes)) ≡ true) → IsNote stores e ev notes.Breaks
-  broken_write_note object offset p bytes is p_is broken v later =
-      let same : break_in (stores v) true (pointer_to object offset) (length (map (value v e) bytes)) ≡ break_in (stores v) true p (length bytes) = (λ i. break_in (stores v) true (sym p_is i) (length-map bytes (value v e) i)) in
-      let q = pointer_to object offset in
+  pub broken_write_note : (pointer : Id) (p : ℕ) (bytes : List Id) → ev.kind ≡ kinds.Write pointer bytes false → ((v : ℕ → ℕ) → value v e pointer ≡ p) → ((v : ℕ → ℕ) → is_some (break_in (stores v) true p (length bytes)) ≡ true) → IsNote stores e ev notes.Breaks
+  broken_write_note pointer p bytes is p_is broken v later =
+      let q = value v e pointer in
+      let same : break_in (stores v) true q (length (map (value v e) bytes)) ≡ break_in (stores v) true p (length bytes) = (λ i. break_in (stores v) true (p_is v i) (length-map bytes (value v e) i)) in
       let new = map (value v e) bytes in
-      told_as (kinds.Write object offset bytes) is v later
+      told_as (kinds.Write pointer bytes false) is v later
       ∙ some_broken (access_class (stores v) (actions.Write q new false) answers.Done) _ (ap is_some (write_class (stores v) q new false answers.Done ∙ same) ∙ broken v)
 
-  pub write_note : (object offset p : ℕ) (bytes new : List Id) → ev.kind ≡ kinds.Write object offset bytes → p ≡ pointer_to object offset → new ≡ bytes → ((v : ℕ → ℕ) → break_in (stores v) true p (length new) ≡ None) → IsNote stores e ev notes.Passes
-  write_note object offset p bytes new is p_is new_is fine v later =
-      let same : break_in (stores v) true (pointer_to object offset) (length (map (value v e) bytes)) ≡ break_in (stores v) true p (length new) = ap (break_in (stores v) true (pointer_to object offset)) (length-map bytes (value v e)) ∙ (λ i. break_in (stores v) true (sym p_is i) (length (sym new_is i))) in
-      let q = pointer_to object offset in
+  pub write_note : (d : List Node) (pointer : Id) (p : ℕ) (bytes new : List Id) → Extends d e → Within d pointer → ev.kind ≡ kinds.Write pointer bytes false → ((v : ℕ → ℕ) → value v d pointer ≡ p) → new ≡ bytes → ((v : ℕ → ℕ) → break_in (stores v) true p (length new) ≡ None) → IsNote stores e ev notes.Passes
+  write_note d pointer p bytes new x pointer_there is p_is new_is fine v later =
+      let q = value v e pointer in
+      let q_is : q ≡ p = x.value_stays v pointer pointer_there ∙ p_is v in
+      let same : break_in (stores v) true q (length (map (value v e) bytes)) ≡ break_in (stores v) true p (length new) = ap (break_in (stores v) true q) (length-map bytes (value v e)) ∙ (λ i. break_in (stores v) true (q_is i) (length (sym new_is i))) in
       let own = map (value v e) bytes in
       let class_is : access_class (stores v) (actions.Write q own false) answers.Done ≡ None = write_class (stores v) q own false answers.Done ∙ same ∙ fine v in
-      told_as (kinds.Write object offset bytes) is v later ∙ (λ i. breaks_or (class_is i) (write_given (stores v) q own false (same ∙ fine v) i && later))
+      told_as (kinds.Write pointer bytes false) is v later ∙ (λ i. breaks_or (class_is i) (write_given (stores v) q own false (same ∙ fine v) i && later))
 
-  pub read_note : (d : List Node) (object offset count p : ℕ) (answer words : List Id) (test : Id) → Extends d e → Within d ev.guard → All (Within d) answer → ev.kind ≡ kinds.Read object offset count answer → p ≡ pointer_to object offset → words ≡ answer → ((v : ℕ → ℕ) → break_in (stores v) false p count ≡ None)
+  pub read_note : (d : List Node) (pointer : Id) (count p : ℕ) (answer words : List Id) (test : Id) → Extends d e → Within d ev.guard → Within d pointer → All (Within d) answer → ev.kind ≡ kinds.Read pointer count answer → ((v : ℕ → ℕ) → value v d pointer ≡ p) → words ≡ answer
+      → ((v : ℕ → ℕ) → break_in (stores v) false p count ≡ None)
       → ((v : ℕ → ℕ) → holds (value v d ev.guard) ≡ true → holds (value v e test) ≡ same_bytes (bytes_of_words count (map (value v d) words)) (bytes_at (stores v) p count)) → IsNote stores e ev (notes.Gives test)
-  read_note d object offset count p answer words test x guard_there there is p_is words_are fine given v later guard_is =
-      let q = pointer_to object offset in
+  read_note d pointer count p answer words test x guard_there pointer_there there is p_is words_are fine given v later guard_is =
+      let q = value v e pointer in
+      let q_is : q ≡ p = x.value_stays v pointer pointer_there ∙ p_is v in
       let bytes = bytes_of_words count (map (value v e) answer) in
       let test_is : same_bytes bytes (bytes_at (stores v) q count) ≡ holds (value v e test) =
-      (λ i. same_bytes (bytes_of_words count (map_stays v d e answer x there i)) (bytes_at (stores v) q count)) ∙ (λ i. same_bytes (bytes_of_words count (map (value v d) (sym words_are i))) (bytes_at (stores v) (sym p_is i) count)) ∙ sym (given v (ap holds (sym (x.value_stays v ev.guard guard_there)) ∙ guard_is)) in
-      let none : break_in (stores v) false q count ≡ None = ap (λ r. break_in (stores v) false r count) (sym p_is) ∙ fine v in
+      (λ i. same_bytes (bytes_of_words count (map_stays v d e answer x there i)) (bytes_at (stores v) q count)) ∙ (λ i. same_bytes (bytes_of_words count (map (value v d) (sym words_are i))) (bytes_at (stores v) (q_is i) count)) ∙ sym (given v (ap holds (sym (x.value_stays v ev.guard guard_there)) ∙ guard_is)) in
+      let none : break_in (stores v) false q count ≡ None = ap (λ r. break_in (stores v) false r count) q_is ∙ fine v in
       let class_is : access_class (stores v) (actions.Read q count) (answers.Bytes bytes) ≡ None = read_class (stores v) q count (answers.Bytes bytes) ∙ none in
-      told_as (kinds.Read object offset count answer) is v later
+      told_as (kinds.Read pointer count answer) is v later
       ∙ (λ i. breaks_or (class_is i) (read_given (stores v) q count bytes none i && later))
       ∙ ap (λ b. b && later) test_is
 
@@ -172,6 +180,18 @@ no_object writes p n = by (object_of p == 0)
     by : (b : Bool) → is_some (if b then Some Null else Some InvalidPointer) ≡ true
     by true = refl
     by false = refl
+
+pub broken_read_alone : (e : List Node) (ev : Event) (pointer : Id) (count : ℕ) (answer : List Id) → ev.kind ≡ kinds.Read pointer count answer → IsNote (λ v. []) e ev notes.Breaks
+broken_read_alone e ev pointer count answer is v later =
+    let a = answers.Bytes (bytes_of_words count (map (value v e) answer)) in
+    ap (λ (j : EventKind). breaks_from [] (kind_seen v e ev.line ev.function j) later) is
+    ∙ some_broken (access_class [] (actions.Read (value v e pointer) count) a) _ (ap is_some (read_class [] (value v e pointer) count a) ∙ no_object false (value v e pointer) count)
+
+pub broken_write_alone : (e : List Node) (ev : Event) (pointer : Id) (bytes : List Id) (first : Bool) → ev.kind ≡ kinds.Write pointer bytes first → IsStaticKind e ev.kind → IsNote (λ v. []) e ev notes.Breaks
+broken_write_alone e ev pointer bytes first is static v later =
+    let new = map (value v e) bytes in
+    ap (λ (j : EventKind). breaks_from [] (kind_seen v e ev.line ev.function j) later) (written_kind e ev.kind pointer bytes first is static)
+    ∙ some_broken (access_class [] (actions.Write (value v e pointer) new false) answers.Done) _ (ap is_some (write_class [] (value v e pointer) new false answers.Done) ∙ no_object true (value v e pointer) (length new))
 
 -- the checks of accesses are those of the store at the start
 pub some_break : (v : ℕ → ℕ) (d : List Node) (m : Memory) (objects : Objects) (writes : Bool) (p n : ℕ) (c : Option Class) → StandsFor v d m objects → c ≡ break_in m.store.now writes p n → is_some c ≡ true → is_some (break_in objects writes p n) ≡ true

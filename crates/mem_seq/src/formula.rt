@@ -3,7 +3,7 @@
 ghost use Rattle.std.specs.Prelude.{◌≡◌, ℕ, Bool, ◌&&◌, [], All, IfOk};
 ghost use Rattle.actions.specs.Behaviour.{Thread};
 ghost use Rattle.actions.specs.Objects.{Objects};
-ghost use Rattle.guarded_ssa.specs.Forms.{EventIn, event_seen, FormIn, IsForm};
+ghost use Rattle.guarded_ssa.specs.Forms.{EventIn, event_seen, FormIn, IsForm, IsStaticKind, AreStatic};
 ghost use Rattle.interleave.specs.World.{first_world};
 ghost use Rattle.guarded_ssa.specs.Goals.{IsGoal};
 ghost use Rattle.guarded_ssa.specs.Formulas.{told_by, IsFormula, FormulaIn};
@@ -39,7 +39,8 @@ fn under(dag: &mut Dag, guard: Id, test: Id) -> Result<Id, AllocError>
 
 // What an event adds in a run from a store without objects, in which each access breaks a check.
 fn part_alone(dag: &mut Dag, event: &Event) -> Result<Part, AllocError>
-    requires { EventIn dag.old event.now }
+    requires event { EventIn dag.old event.now }
+    requires plain { IsStaticKind dag.old event.now.kind }
     ensures extends { Extends dag.old dag.new }
     ensures within { IfOk result (PartIn dag.new) }
     ensures made { IfOk result (λ p. (v : ℕ → ℕ) (later : Bool) → breaks_from [] (event_seen v dag.old event.now) later ≡ with_part v dag.new p later) }
@@ -61,12 +62,18 @@ fn part_alone(dag: &mut Dag, event: &Event) -> Result<Part, AllocError>
             let goes_on = inverse(dag, ends)?;
             Ok(Part::Needs(goes_on))
         }
+        EventKind::Fill { .. }
+        | EventKind::Look { .. }
+        | EventKind::Alloc { .. }
+        | EventKind::Die { .. }
+        | EventKind::Free { .. } => unreachable!(),
     }
 }
 
 // What an event adds in a run from the stores of which the note tells.
 fn part_at(dag: &mut Dag, event: &Event, note: Note) -> Result<Part, AllocError>
     requires event { EventIn dag.old event.now }
+    requires plain { IsStaticKind dag.old event.now.kind }
     requires note { NoteIn dag.old note }
     ensures extends { Extends dag.old dag.new }
     ensures within { IfOk result (PartIn dag.new) }
@@ -93,6 +100,7 @@ fn goal(
     notes: &[Note],
 ) -> Result<Id, AllocError>
     requires within { FormIn dag.old events.now }
+    requires plain { AreStatic dag.old events.now }
     requires notes_within { All (NoteIn dag.old) notes.now }
     requires notes { AreNotes (λ v. store.now) dag.old events.now notes.now }
     ensures extends { Extends dag.old dag.new }
@@ -111,16 +119,19 @@ fn goal(
 }
 
 /// The formula of the runs of one thread that break a check, over the form of the thread and from its store
-/// on. It keeps the form, so that each run of the thread has a valuation that tells it. The only error is that there is no memory.
+/// on. It keeps the form, so that each run of the thread has a valuation that tells it. The only error is that there is no
+/// memory. It doesn't say yet what accesses by pointers do, and the form has none.
 pub fn sequential(
     alloc: Global,
     dag: &mut Dag,
     form: &ThreadForm,
     _sets: &Sets,
 ) -> Result<Formula, AllocError>
-    requires { FormIn dag.old form.now.events }
+    requires within { FormIn dag.old form.now.events }
+    requires plain { AreStatic dag.old form.now.events }
     ensures extends { Extends dag.old dag.new }
     ensures within { IfOk result (λ f. FormulaIn dag.new f) }
+    ensures plain { IfOk result (λ f. AreStatic dag.new f.form.events) }
     ensures form { IfOk result (λ f. (t : Thread) → IsForm t.behaves dag.old form.now.events → IsForm t.behaves dag.new f.form.events) }
     ensures formula { IfOk result (λ f. (t : Thread) → AreObjects form.now.store → IsForm t.behaves dag.old form.now.events → IsFormula (first_world t form.now.store) dag.new f) }
     ensures runs { IfOk result (λ f. (t : Thread) → AreObjects form.now.store → IsForm t.behaves dag.old form.now.events → IsGoal (first_world t form.now.store) dag.new f.goal (told_by dag.new f.form)) }

@@ -6,7 +6,7 @@ ghost use Rattle.std.specs.BTreeMap as tree;
 ghost use Rattle.actions.specs.Pointer.{offset_of};
 ghost use Rattle.actions.specs.Objects.{Objects, bytes_at, with_bytes, break_in};
 ghost use Rattle.guarded_ssa.specs.Runs.{bytes_of_words};
-ghost use Rattle.guarded_ssa.specs.Forms.{AreWords, IsBit, EventIn, FormIn, event_seen, seen};
+ghost use Rattle.guarded_ssa.specs.Forms.{AreWords, IsBit, EventIn, FormIn, IsFixed, IsStaticKind, AreStatic, event_seen, seen};
 ghost use Rattle.guarded_ssa.specs.Accesses.{same_bytes, behind};
 ghost use Rattle.mem_seq.specs.Goals.{breaks_from, gives};
 ghost use Rattle.mem_seq.specs.Memories.{MemoryIn, StandsFor, value_or, put_from, written_in};
@@ -19,7 +19,6 @@ ghost use Rattle.word_dag.specs.declared.nodes.Node.{Node};
 
 use crate::replacing::{learn_words, replaced};
 use actions::{AccessError, Store};
-use c_values::pointer_to;
 use guarded_ssa::{Event, EventKind};
 use rewritten_nodes::{Known, side};
 use std::alloc::{AllocError, Global};
@@ -45,6 +44,18 @@ struct Memory<'a> {
     alloc: Global,
     store: &'a Store,
     written: BTreeMap<u64, Id>,
+}
+
+// The bits of a pointer that is a constant.
+fn fixed(dag: &Dag, pointer: Id) -> u64
+    requires { IsFixed dag.now pointer }
+    ensures { (v : ℕ → ℕ) → value v dag.now pointer ≡ result }
+{
+    let _ = dag.nodes();
+    match dag.node(pointer) {
+        Node::Constant(bits, _) => bits,
+        _ => unreachable!(),
+    }
 }
 
 // Whether words of 8 bytes each, the last of the bytes that are left, are these bytes.
@@ -250,18 +261,18 @@ impl<'a> Memory<'a> {
         requires within { MemoryIn dag.old self.now }
         requires known { KnownIn dag.old known.old }
         requires event { EventIn dag.old event.now }
+        requires plain { IsStaticKind dag.old event.now.kind }
         ensures extends { Extends dag.old dag.new }
         ensures known { OnOk result (KnownIn dag.new known.new) }
         ensures agrees { OnOk result ((v : ℕ → ℕ) (objects : Objects) → StandsFor v dag.old self.now objects → gives objects (event_seen v dag.old event.now) ≡ true → Agrees v dag.old known.old → Agrees v dag.new known.new) }
     {
         match &event.kind {
             EventKind::Read {
-                object,
-                offset,
+                pointer,
                 count,
                 answer,
             } => {
-                let p = pointer_to(*object, *offset);
+                let p = fixed(dag, *pointer);
                 if self.store.break_of(false, p, *count as usize).is_some() {
                     return Ok(());
                 }
@@ -278,6 +289,7 @@ impl<'a> Memory<'a> {
     fn note(&mut self, dag: &mut Dag, event: &Event) -> Result<Note, AllocError>
         requires within { MemoryIn dag.old self.old }
         requires event { EventIn dag.old event.now }
+        requires plain { IsStaticKind dag.old event.now.kind }
         ensures extends { Extends dag.old dag.new }
         ensures within { IfOk result (λ note. MemoryIn dag.new self.new) }
         ensures store { self.new.store.now ≡ self.old.store.now }
@@ -288,24 +300,19 @@ impl<'a> Memory<'a> {
         match &event.kind {
             EventKind::Draw { .. } => Ok(Note::Passes),
             EventKind::Read {
-                object,
-                offset,
+                pointer,
                 count,
                 answer,
             } => {
-                let p = pointer_to(*object, *offset);
+                let p = fixed(dag, *pointer);
                 if self.store.break_of(false, p, *count as usize).is_some() {
                     return Ok(Note::Breaks);
                 }
                 let test = self.gives(dag, event.guard, p, *count, answer.as_slice())?;
                 Ok(Note::Gives(test))
             }
-            EventKind::Write {
-                object,
-                offset,
-                bytes,
-            } => {
-                let p = pointer_to(*object, *offset);
+            EventKind::Write { pointer, bytes, .. } => {
+                let p = fixed(dag, *pointer);
                 let new = bytes.as_slice();
                 if self.store.break_of(true, p, new.len()).is_some() {
                     return Ok(Note::Breaks);
@@ -316,6 +323,11 @@ impl<'a> Memory<'a> {
             EventKind::Exit => Ok(Note::Alone),
             EventKind::Check { .. } => Ok(Note::Alone),
             EventKind::Assume { .. } => Ok(Note::Alone),
+            EventKind::Fill { .. }
+            | EventKind::Look { .. }
+            | EventKind::Alloc { .. }
+            | EventKind::Die { .. }
+            | EventKind::Free { .. } => unreachable!(),
         }
     }
 }
@@ -332,11 +344,13 @@ fn follow(
     requires memory { MemoryIn dag.old memory.old }
     requires known { KnownIn dag.old known.old }
     requires event { EventIn dag.old event.now }
+    requires plain { IsStaticKind dag.old event.now.kind }
     ensures extends { Extends dag.old dag.new }
     ensures memory { OnOk result (MemoryIn dag.new memory.new) }
     ensures known { OnOk result (KnownIn dag.new known.new) }
     ensures store { memory.new.store.now ≡ memory.old.store.now }
     ensures event { IfOk result (λ r. EventIn dag.new r.0) }
+    ensures plain { IfOk result (λ r. IsStaticKind dag.new r.0.kind) }
     ensures note_within { IfOk result (λ r. NoteIn dag.new r.1) }
     ensures note { IfOk result (λ r. (stores : (ℕ → ℕ) → Objects) → ((v : ℕ → ℕ) → StandsFor v dag.old memory.old (stores v)) → IsNote stores dag.new r.0 r.1) }
     ensures behind { IfOk result (λ r. (v : ℕ → ℕ) (objects : Objects) → StandsFor v dag.old memory.old objects → StandsFor v dag.new memory.new (behind objects (event_seen v dag.new r.0))) }
@@ -365,9 +379,11 @@ pub fn notes(
     store: &Store,
     events: &[Event],
 ) -> Result<Noted, AllocError>
-    requires { FormIn dag.old events.now }
+    requires within { FormIn dag.old events.now }
+    requires plain { AreStatic dag.old events.now }
     ensures extends { Extends dag.old dag.new }
     ensures events { IfOk result (λ r. FormIn dag.new r.events.items) }
+    ensures plain { IfOk result (λ r. AreStatic dag.new r.events.items) }
     ensures within { IfOk result (λ r. All (NoteIn dag.new) r.notes.items) }
     ensures notes { IfOk result (λ r. AreNotes (λ v. store.now) dag.new r.events.items r.notes.items) }
     ensures same { IfOk result (λ r. (v : ℕ → ℕ) → breaks_from store.now (seen v dag.new r.events.items) false ≡ breaks_from store.now (seen v dag.old events.now) false) }

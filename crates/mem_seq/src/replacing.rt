@@ -2,7 +2,7 @@
 
 ghost use Rattle.std.specs.Prelude.{◌≡◌, ◌+◌, ◌*◌, ◌≤◌, ◌-◌, ℕ, true, All, length, map, take, drop, min, IfOk, OnOk};
 ghost use Rattle.guarded_ssa.specs.Runs.{bytes_of_words};
-ghost use Rattle.guarded_ssa.specs.Forms.{AreWords, KindIn, EventIn, kind_seen, event_seen};
+ghost use Rattle.guarded_ssa.specs.Forms.{AreWords, KindIn, EventIn, IsStaticKind, kind_seen, event_seen};
 ghost use Rattle.guarded_ssa.specs.Accesses.{same_bytes};
 ghost use Rattle.rewritten_nodes.specs.Images.{KnownIn, Agrees};
 ghost use Rattle.value_nodes.specs.Values.{IsWord, AreBytes};
@@ -38,7 +38,7 @@ fn images(
     Ok(images)
 }
 
-// A kind over the nodes that stand for its own, but for answers.
+// A kind over the nodes that stand for its own, but for answers and for pointers, which are constants.
 fn replaced_kind(
     alloc: Global,
     dag: &mut Dag,
@@ -47,23 +47,25 @@ fn replaced_kind(
 ) -> Result<EventKind, AllocError>
     requires known { KnownIn dag.old known.old }
     requires kind { KindIn dag.old kind.now }
+    requires plain { IsStaticKind dag.old kind.now }
     ensures extends { Extends dag.old dag.new }
     ensures known { OnOk result (KnownIn dag.new known.new) }
     ensures kind { IfOk result (KindIn dag.new) }
+    ensures plain { IfOk result (IsStaticKind dag.new) }
     ensures same { IfOk result (λ k. (v : ℕ → ℕ) (line f : ℕ) → Agrees v dag.old known.old → kind_seen v dag.new line f k ≡ kind_seen v dag.old line f kind.now) }
     ensures agrees { OnOk result ((v : ℕ → ℕ) → Agrees v dag.old known.old → Agrees v dag.new known.new) }
 {
     match kind {
         EventKind::Write {
-            object,
-            offset,
+            pointer,
             bytes,
+            first,
         } => {
             let images = images(alloc, dag, known, bytes.as_slice())?;
             Ok(EventKind::Write {
-                object: *object,
-                offset: *offset,
+                pointer: *pointer,
                 bytes: Nodes::new(images),
+                first: *first,
             })
         }
         EventKind::Check { class, failing } => {
@@ -81,11 +83,16 @@ fn replaced_kind(
             let same = kind.copied(alloc)?;
             Ok(same)
         }
+        EventKind::Fill { .. }
+        | EventKind::Look { .. }
+        | EventKind::Alloc { .. }
+        | EventKind::Die { .. }
+        | EventKind::Free { .. } => unreachable!(),
     }
 }
 
-/// The event over the nodes that stand for its own, but for answers, which stay what they are. Where what is known
-/// holds, it tells the same.
+/// The event over the nodes that stand for its own, but for answers and for pointers, which stay what they are. Where what
+/// is known holds, it tells the same.
 pub fn replaced(
     alloc: Global,
     dag: &mut Dag,
@@ -94,9 +101,11 @@ pub fn replaced(
 ) -> Result<Event, AllocError>
     requires known { KnownIn dag.old known.old }
     requires event { EventIn dag.old event.now }
+    requires plain { IsStaticKind dag.old event.now.kind }
     ensures extends { Extends dag.old dag.new }
     ensures known { OnOk result (KnownIn dag.new known.new) }
     ensures event { IfOk result (EventIn dag.new) }
+    ensures plain { IfOk result (λ e. IsStaticKind dag.new e.kind) }
     ensures same { IfOk result (λ e. (v : ℕ → ℕ) → Agrees v dag.old known.old → event_seen v dag.new e ≡ event_seen v dag.old event.now) }
     ensures agrees { OnOk result ((v : ℕ → ℕ) → Agrees v dag.old known.old → Agrees v dag.new known.new) }
 {

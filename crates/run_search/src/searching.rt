@@ -13,7 +13,7 @@ ghost use Rattle.goto_prog.specs.Flat.{main_code, plain_thread};
 ghost use Rattle.goto_prog.specs.Static.{is_static_code};
 ghost use Rattle.goto_unwind.specs.Counts.{passed};
 ghost use Rattle.goto_unwind.specs.LocalRuns.{MakesFew};
-ghost use Rattle.guarded_ssa.specs.Forms.{IsForm};
+ghost use Rattle.guarded_ssa.specs.Forms.{IsForm, AreStatic};
 ghost use Rattle.guarded_ssa.specs.Accesses.{AreObjects};
 ghost use Rattle.guarded_ssa.specs.Goals.{IsGoal};
 ghost use Rattle.guarded_ssa.specs.Formulas.{told_by, IsFormula, FormulaIn};
@@ -121,6 +121,7 @@ fn unrolled_code(alloc: Global, file: &Admitted, bounds: &Bounds) -> Result<Unro
 fn formula_of(alloc: Global, dag: &mut Dag, unrolled: &Unrolled) -> Result<Formula, AllocError>
     requires plain { is_static_code (main_code unrolled.now).instructions ≡ true }
     ensures within { IfOk result (λ f. FormulaIn dag.new f) }
+    ensures plain { IfOk result (λ f. AreStatic dag.new f.form.events) }
     ensures form { IfOk result (λ f. (t : Thread) → (plain_thread unrolled.now).behaves ≡ t.behaves → IsForm t.behaves dag.new f.form.events) }
     ensures formula { IfOk result (λ f. (t : Thread) → AreObjects unrolled.now.store → (plain_thread unrolled.now).behaves ≡ t.behaves → IsFormula (first_world t unrolled.now.store) dag.new f) }
     ensures runs { IfOk result (λ f. (t : Thread) → AreObjects unrolled.now.store → (plain_thread unrolled.now).behaves ≡ t.behaves → IsGoal (first_world t unrolled.now.store) dag.new f.goal (told_by dag.new f.form)) }

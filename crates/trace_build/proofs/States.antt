@@ -3,6 +3,7 @@ use Rattle.std.proofs.Common.{◌≡◌, ℕ, Bool, true, false, cond, List, [],
 use Rattle.std.specs.Prelude.{if◌then◌else◌}
 use Rattle.std.specs.Ordering.{nat_cmp}
 use Rattle.std.specs.Map.{lookup}
+use Rattle.std.proofs.lemmas.List.Elements.{All-head, All-tail}
 use Rattle.std.specs.BTreeMap.{is_at}
 use Rattle.words.specs.declared.check.Class.{Class}
 use Rattle.actions.specs.Pointer.{object_of, offset_of}
@@ -13,14 +14,13 @@ use Rattle.actions.specs.Objects.{Objects, object_at, state_at, with_object, cha
 use Rattle.actions.specs.declared.action.Answer.TheVariants as answers
 use Rattle.actions.specs.declared.action.Next.{Next}
 use Rattle.actions.specs.declared.action.Next.TheVariants.{Blocked, Broken}
-use Rattle.c_values.specs.Variables.{pointer_to}
 use Rattle.word_dag.specs.declared.nodes.Node.{Node}
 use Rattle.word_dag.specs.Meaning.{value, holds}
 use Rattle.guarded_ssa.specs.declared.forms.Event.{Event}
 use Rattle.guarded_ssa.specs.declared.forms.EventKind.{EventKind}
 use Rattle.guarded_ssa.specs.declared.forms.EventKind.TheVariants as kinds
 use Rattle.guarded_ssa.specs.Runs.{bytes_of_words}
-use Rattle.guarded_ssa.specs.Forms.{kind_seen, event_seen, seen}
+use Rattle.guarded_ssa.specs.Forms.{kind_seen, event_seen, seen, IsStaticKind, AreStatic}
 use Rattle.guarded_ssa.specs.Arrivals.{stopped}
 use Rattle.guarded_ssa.specs.Accesses.{behind}
 use Rattle.guarded_ssa.proofs.Accesses.{read_stored, write_stored}
@@ -62,27 +62,33 @@ told_state : (objects : Objects) (b : Bool) (end : Next) → SameStates (behind 
 told_state objects true end k = refl
 told_state objects false end k = refl
 
-kind_state : (v : ℕ → ℕ) (d : List Node) (objects : Objects) (line f : ℕ) (kind : EventKind) → SameStates (behind objects (kind_seen v d line f kind)) objects
-kind_state v d objects line f (kinds.Draw bits answer) k = refl
-kind_state v d objects line f (kinds.Read object offset count answer) k =
-    ap (λ (os : Objects). state_at os k) (read_stored objects (pointer_to object offset) count (answers.Bytes (bytes_of_words count (map (value v d) answer))))
-kind_state v d objects line f (kinds.Write object offset bytes) k =
-    let p = pointer_to object offset in
+kind_state : (v : ℕ → ℕ) (d : List Node) (objects : Objects) (line f : ℕ) (kind : EventKind) → IsStaticKind d kind → SameStates (behind objects (kind_seen v d line f kind)) objects
+kind_state v d objects line f (kinds.Draw bits answer) static k = refl
+kind_state v d objects line f (kinds.Fill count most words) static k = absurd static
+kind_state v d objects line f (kinds.Read pointer count answer) static k =
+    ap (λ (os : Objects). state_at os k) (read_stored objects (value v d pointer) count (answers.Bytes (bytes_of_words count (map (value v d) answer))))
+kind_state v d objects line f (kinds.Write pointer bytes first) static k =
+    let p = value v d pointer in
     let new = map (value v d) bytes in
-    ap (λ (os : Objects). state_at os k) (write_stored objects p new false answers.Done) ∙ write_state objects p new (write_break objects p new false) k
-kind_state v d objects line f kinds.Exit k = refl
-kind_state v d objects line f (kinds.Check class failing) k = told_state objects (holds (value v d failing)) (Broken class line f) k
-kind_state v d objects line f (kinds.Assume failing) k = told_state objects (holds (value v d failing)) Blocked k
+    ap (λ (os : Objects). state_at os k) (write_stored objects p new first answers.Done) ∙ write_state objects p new (write_break objects p new first) k
+kind_state v d objects line f (kinds.Look pointer subscript answer) static k = absurd static
+kind_state v d objects line f (kinds.Alloc size bytes readonly heap answer) static k = absurd static
+kind_state v d objects line f (kinds.Die pointer) static k = absurd static
+kind_state v d objects line f (kinds.Free pointer) static k = absurd static
+kind_state v d objects line f kinds.Exit static k = refl
+kind_state v d objects line f (kinds.Check class failing) static k = told_state objects (holds (value v d failing)) (Broken class line f) k
+kind_state v d objects line f (kinds.Assume failing) static k = told_state objects (holds (value v d failing)) Blocked k
 
-event_state : (v : ℕ → ℕ) (d : List Node) (objects : Objects) (e : Event) (b : Bool) → SameStates (behind objects (if b then kind_seen v d e.line e.function e.kind else [])) objects
-event_state v d objects e true k = kind_state v d objects e.line e.function e.kind k
-event_state v d objects e false k = refl
+event_state : (v : ℕ → ℕ) (d : List Node) (objects : Objects) (e : Event) (b : Bool) → IsStaticKind d e.kind → SameStates (behind objects (if b then kind_seen v d e.line e.function e.kind else [])) objects
+event_state v d objects e true static k = kind_state v d objects e.line e.function e.kind static k
+event_state v d objects e false static k = refl
 
-pub states_stay : (v : ℕ → ℕ) (d : List Node) (objects : Objects) (es : List Event) → SameStates (behind objects (seen v d es)) objects
-states_stay v d objects [] k = refl
-states_stay v d objects (e ∷ es) k =
+pub states_stay : (v : ℕ → ℕ) (d : List Node) (objects : Objects) (es : List Event) → AreStatic d es → SameStates (behind objects (seen v d es)) objects
+states_stay v d objects [] static k = refl
+states_stay v d objects (e ∷ es) static k =
     ap (λ (os : Objects). state_at os k) (behind_append objects (event_seen v d e) (seen v d es))
-    ∙ states_stay v d (behind objects (event_seen v d e)) es k ∙ event_state v d objects e (holds (value v d e.guard)) k
+    ∙ states_stay v d (behind objects (event_seen v d e)) es (All-tail (λ (ev : Event). IsStaticKind d ev.kind) e es static) k
+    ∙ event_state v d objects e (holds (value v d e.guard)) (All-head (λ (ev : Event). IsStaticKind d ev.kind) e es static) k
 
 -- so an access breaks the same
 pub same_break : (first second : Objects) (writes : Bool) (p n : ℕ) → SameStates first second → break_in first writes p n ≡ break_in second writes p n

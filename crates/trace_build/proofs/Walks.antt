@@ -8,7 +8,6 @@ use Rattle.words.specs.declared.check.Check.{Check}
 use Rattle.word_dag.specs.declared.nodes.Id.{Id}
 use Rattle.word_dag.specs.declared.nodes.Node.{Node}
 use Rattle.word_dag.specs.Meaning.{value, holds}
-use Rattle.c_values.specs.Variables.{pointer_to}
 use Rattle.actions.specs.Objects.{Objects, break_in}
 use Rattle.actions.specs.declared.action.Action.{Action}
 use Rattle.actions.specs.declared.action.Action.TheVariants as actions
@@ -104,30 +103,30 @@ module _ (v : ℕ → ℕ) (d : List Node) (e : Event) (objects : Objects) where
       }) walk
 
   -- an access to the store, whose objects are in the states of those of another store
-  pub goes_read : (store : Objects) (found : Option Check) (whole : Run) (more : List Seen) (words schedule words' schedule' : List ℕ) (object offset count : ℕ) (answer : List Id) → SameStates objects store → holds (value v d e.guard) ≡ true
-      → e.kind ≡ kinds.Read object offset count answer → found ≡ option_map (λ class. check_of class e.line e.function 0) (break_in store false (pointer_to object offset) count)
+  pub goes_read : (store : Objects) (found : Option Check) (whole : Run) (more : List Seen) (words schedule words' schedule' : List ℕ) (pointer : Id) (count : ℕ) (answer : List Id) → SameStates objects store → holds (value v d e.guard) ≡ true
+      → e.kind ≡ kinds.Read pointer count answer → found ≡ option_map (λ class. check_of class e.line e.function 0) (break_in store false (value v d pointer) count)
       → words' ≡ words → schedule' ≡ schedule ++ 0 ∷ [] → IsWalk whole (told more) words schedule → WalksOn found whole (left more) words' schedule'
-  goes_read store found whole more words schedule words' schedule' object offset count answer states on is found_is same_words same_turns walk =
-      let p = pointer_to object offset in
+  goes_read store found whole more words schedule words' schedule' pointer count answer states on is found_is same_words same_turns walk =
+      let p = value v d pointer in
       let a = answers.Bytes (bytes_of_words count (map (value v d) answer)) in
       let class : found ≡ option_map (λ class. check_of class e.line e.function 0) (access_class objects (actions.Read p count) a) =
       found_is ∙ ap (option_map (λ class. check_of class e.line e.function 0)) (sym (read_class objects p count a ∙ same_break objects store false p count states)) in
       let rest = checked (stored_by objects (actions.Read p count) a) (read more end) in
-      by_seen (kinds.Read object offset count answer) found whole more words schedule words' schedule' on is (λ w.
+      by_seen (kinds.Read pointer count answer) found whole more words schedule words' schedule' on is (λ w.
       subst (λ (f : Option Check). WalksOn f whole rest words' schedule') (sym class)
       (walk_access (access_class objects (actions.Read p count) a) whole rest (actions.Read p count) e.line e.function a words schedule words' schedule' (λ drawn. refl) same_words same_turns w)) walk
 
-  pub goes_written : (store : Objects) (found : Option Check) (whole : Run) (more : List Seen) (words schedule words' schedule' : List ℕ) (object offset count : ℕ) (bytes : List Id) → SameStates objects store → holds (value v d e.guard) ≡ true
-      → e.kind ≡ kinds.Write object offset bytes → count ≡ length bytes → found ≡ option_map (λ class. check_of class e.line e.function 0) (break_in store true (pointer_to object offset) count)
+  pub goes_written : (store : Objects) (found : Option Check) (whole : Run) (more : List Seen) (words schedule words' schedule' : List ℕ) (pointer : Id) (count : ℕ) (bytes : List Id) (first : Bool) → SameStates objects store → holds (value v d e.guard) ≡ true
+      → e.kind ≡ kinds.Write pointer bytes first → first ≡ false → count ≡ length bytes → found ≡ option_map (λ class. check_of class e.line e.function 0) (break_in store true (value v d pointer) count)
       → words' ≡ words → schedule' ≡ schedule ++ 0 ∷ [] → IsWalk whole (told more) words schedule → WalksOn found whole (left more) words' schedule'
-  goes_written store found whole more words schedule words' schedule' object offset count bytes states on is count_is found_is same_words same_turns walk =
-      let p = pointer_to object offset in
+  goes_written store found whole more words schedule words' schedule' pointer count bytes first states on is later count_is found_is same_words same_turns walk =
+      let p = value v d pointer in
       let new = map (value v d) bytes in
       let long : count ≡ length new = count_is ∙ sym (length-map bytes (value v d)) in
       let class : found ≡ option_map (λ class. check_of class e.line e.function 0) (access_class objects (actions.Write p new false) answers.Done) =
       found_is ∙ ap (option_map (λ class. check_of class e.line e.function 0)) (sym (same_break objects store true p count states) ∙ ap (break_in objects true p) long ∙ sym (write_class objects p new false answers.Done)) in
       let rest = checked (stored_by objects (actions.Write p new false) answers.Done) (read more end) in
-      by_seen (kinds.Write object offset bytes) found whole more words schedule words' schedule' on is (λ w.
+      by_seen (kinds.Write pointer bytes false) found whole more words schedule words' schedule' on (is ∙ ap (kinds.Write pointer bytes) later) (λ w.
       subst (λ (f : Option Check). WalksOn f whole rest words' schedule') (sym class)
       (walk_access (access_class objects (actions.Write p new false) answers.Done) whole rest (actions.Write p new false) e.line e.function answers.Done words schedule words' schedule' (λ drawn. refl) same_words same_turns w)) walk
 

@@ -12,7 +12,7 @@ ghost use Rattle.interleave.specs.Turn.{check_of};
 ghost use Rattle.interleave.specs.Replay.{Replays};
 ghost use Rattle.guarded_ssa.specs.Runs.{Run, stops};
 ghost use Rattle.guarded_ssa.specs.Arrivals.{Seen, read};
-ghost use Rattle.guarded_ssa.specs.Forms.{event_seen, EventIn, FormIn};
+ghost use Rattle.guarded_ssa.specs.Forms.{event_seen, EventIn, FormIn, IsStaticKind, AreStatic};
 ghost use Rattle.actions.specs.Objects.{Objects};
 ghost use Rattle.guarded_ssa.specs.Accesses.{checked, behind};
 ghost use Rattle.guarded_ssa.specs.Turns.{breaks, drawn_words, inputs_for, turns, broken_check};
@@ -22,7 +22,6 @@ ghost use Rattle.trace_build.specs.Walking.{SameStates, IsWalk, IsEnd, WalksOn};
 
 use actions::Store;
 use c_profile::Admitted;
-use c_values::pointer_to;
 use core_tree::Bounds;
 use guarded_ssa::{Event, EventKind, Formula, ThreadForm};
 use interleave::{Inputs, Schedule, Trace, Words};
@@ -119,7 +118,8 @@ impl Walk {
         store: &Store,
         event: &Event,
     ) -> Result<Option<Check>, AllocError>
-        requires { EventIn values.dag.now event.now }
+        requires within { EventIn values.dag.now event.now }
+        requires plain { IsStaticKind values.dag.now event.now.kind }
         ensures { IfOk result (λ found. (whole : Run) (more : List Seen) (objects : Objects) → SameStates objects store.now
             → IsWalk whole (checked objects (read (event_seen (valuation_of values.entry.valuation.now) values.entry.dag.now event.now ++ more) (stops (Ended (word_64 0))))) self.old.words.items self.old.turns.items
             → WalksOn found whole (checked (behind objects (event_seen (valuation_of values.entry.valuation.now) values.entry.dag.now event.now)) (read more (stops (Ended (word_64 0))))) self.new.words.items self.new.turns.items) }
@@ -132,21 +132,12 @@ impl Walk {
                 self.draw(values.bits(*answer))?;
                 Ok(None)
             }
-            EventKind::Read {
-                object,
-                offset,
-                count,
-                ..
-            } => {
-                let pointer = pointer_to(*object, *offset);
+            EventKind::Read { pointer, count, .. } => {
+                let pointer = values.bits(*pointer);
                 self.turn_at(event, store.break_of(false, pointer, *count as usize))
             }
-            EventKind::Write {
-                object,
-                offset,
-                bytes,
-            } => {
-                let pointer = pointer_to(*object, *offset);
+            EventKind::Write { pointer, bytes, .. } => {
+                let pointer = values.bits(*pointer);
                 let count = bytes.as_slice().len();
                 self.turn_at(event, store.break_of(true, pointer, count))
             }
@@ -158,6 +149,12 @@ impl Walk {
                 self.turn_at(event, Some(*class))
             }
             EventKind::Assume { .. } => Ok(None),
+            // Static code has none of these.
+            EventKind::Fill { .. }
+            | EventKind::Look { .. }
+            | EventKind::Alloc { .. }
+            | EventKind::Die { .. }
+            | EventKind::Free { .. } => unreachable!(),
         }
     }
 }
@@ -165,6 +162,7 @@ impl Walk {
 // The words and turns of the run that the form tells, which breaks a check, and that check.
 fn collect(alloc: Global, values: Values, form: &ThreadForm) -> Result<(Walk, Check), AllocError>
     requires within { FormIn values.dag.now form.now.events }
+    requires plain { AreStatic values.dag.now form.now.events }
     requires breaks { breaks (run_of (valuation_of values.valuation.now) values.dag.now form.now) ≡ true }
     ensures { IfOk result (λ r. IsEnd (run_of (valuation_of values.entry.valuation.now) values.entry.dag.now form.now) r.0.words.items r.0.turns.items r.1) }
 {
@@ -205,6 +203,7 @@ pub fn build(
 ) -> Result<Trace, AllocError>
     requires formula { IsGoal (source_world (view_core file.now) bounds.now) dag.now formula.now.goal (told_by dag.now formula.now.form) }
     requires within { FormulaIn dag.now formula.now }
+    requires plain { AreStatic dag.now formula.now.form.events }
     requires satisfied { value (valuation_of valuation.now) dag.now formula.now.goal ≡ 1 }
     ensures replays { IfOk result (λ t. Replays (source_world (view_core file.now) bounds.now) t.inputs t.schedule t.check) }
     ensures parts { IfOk result (λ t. (t.inputs ≡ inputs_of (valuation_of valuation.now) dag.now formula.now.form) × (t.schedule ≡ schedule_of (valuation_of valuation.now) dag.now formula.now.form) × (t.check ≡ check_told (valuation_of valuation.now) dag.now formula.now.form)) }

@@ -3,3 +3,6 @@ pub mod Conversions
 pub mod Shifting
 pub mod Checking
 pub mod Blocks
+pub mod Distances
+pub mod Halves
+pub mod Reaching

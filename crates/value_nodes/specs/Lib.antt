@@ -1,3 +1,4 @@
 pub mod Values
 pub mod Ranged
 pub mod Bytes
+pub mod Distances

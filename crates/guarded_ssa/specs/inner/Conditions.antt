@@ -34,4 +34,4 @@ pub record Reached (p : Plan) (d : List Node) (q : Pass) (here : Here) : Type 0 
 
 -- an operation has told its events here, and has led to other places
 abbrev pub PassesHere : Plan → Here → Operation → (d e : List Node) → (p q : Pass) → Type 0
-PassesHere plan here o d e p q = Passes plan.until.items plan.code.now here.place here.line here.function o here.slot d e p q
+PassesHere plan here o d e p q = Passes plan.until.items plan.code.now here.place here.variable here.line here.function o here.slot d e p q

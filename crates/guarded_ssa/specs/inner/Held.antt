@@ -9,17 +9,18 @@ use Rattle.value_nodes.specs.Values.{IsWord}
 use Rattle.cell_trees.specs.Trees.{Arena, looked, Keeps}
 use Rattle.goto_prog.specs.Meaning.{Memory}
 use Rattle.goto_prog.specs.CodeThread.{Listing}
-use Rattle.goto_prog.specs.Static.{is_static_code}
 use Rattle.guarded_ssa.specs.declared.liveness.Plan.{Plan}
 use Rattle.guarded_ssa.specs.declared.slots.Slot.{Slot}
 use Rattle.guarded_ssa.specs.declared.forms.Event.{Event}
 use Rattle.guarded_ssa.specs.declared.pass.Pass.{Pass}
 use Rattle.goto_prog.specs.declared.code.Operation.{Operation}
 use Rattle.goto_prog.specs.declared.code.Instruction.{Instruction}
+use Rattle.guarded_ssa.specs.inner.Answers.{variables_of}
 use Rattle.guarded_ssa.specs.inner.Places.{arrived, on, tells, leaves, told}
 use Rattle.guarded_ssa.specs.inner.Reads.{AllAlike, Covers}
 use Rattle.guarded_ssa.specs.inner.Registers.{ZerosIn, TreeIn, words_from, bytes_from}
-use Rattle.guarded_ssa.specs.Forms.{FormIn, event_seen, seen}
+use Rattle.goto_prog.specs.Static.{is_static}
+use Rattle.guarded_ssa.specs.Forms.{FormIn, IsStaticKind, AreStatic, event_seen, seen}
 
 -- how many bytes blocks of these sizes have
 abbrev pub total : List ℕ → ℕ
@@ -109,19 +110,22 @@ pub record Arrives (until : List ℕ) (code : Listing) (place n : ℕ) (s : Slot
 pub record Tells (until : List ℕ) (code : Listing) (place : ℕ) (event : Event) (s : Slot) (d e : List Node) (p q : Pass) : Type 0 where
   pub within : PassIn e code q
   pub size : length q.pending.items ≡ length p.pending.items
+  pub static : IsStaticKind d event.kind → AreStatic d p.events.items → AreStatic e q.events.items
   pub told : (v : ℕ → ℕ) → seen v e q.events.items ≡ seen v d p.events.items ++ event_seen v d event
   pub leads : (v : ℕ → ℕ) → AllAlike (length code.registers) until (suc place) (arrivals v e q.trees code q.pending.items) (arrived 0 (guarded v d p.trees code s) (arrivals v d p.trees code p.pending.items))
 
--- an operation reached with a slot has told its events, and has led to other places
-pub record Passes (until : List ℕ) (code : Listing) (place line function : ℕ) (o : Operation) (s : Slot) (d e : List Node) (p q : Pass) : Type 0 where
+-- an operation reached with a slot has told its events, by the variables from one on, and has led to other places
+pub record Passes (until : List ℕ) (code : Listing) (place variable line function : ℕ) (o : Operation) (s : Slot) (d e : List Node) (p q : Pass) : Type 0 where
   pub within : PassIn e code q
   pub size : length q.pending.items ≡ length p.pending.items
-  pub told : (v : ℕ → ℕ) → seen v e q.events.items ≡ seen v d p.events.items ++ on (guarded v d p.trees code s) (tells v (length code.instructions) place line function o)
-  pub leads : (v : ℕ → ℕ) → AllAlike (length code.registers) until (suc place) (arrivals v e q.trees code q.pending.items) (leaves v (length code.instructions) place o (guarded v d p.trees code s) (arrivals v d p.trees code p.pending.items))
+  pub static : is_static o ≡ true → AreStatic d p.events.items → AreStatic e q.events.items
+  pub told : (v : ℕ → ℕ) → seen v e q.events.items ≡ seen v d p.events.items ++ on (guarded v d p.trees code s) (tells v variable line function o)
+  pub leads : (v : ℕ → ℕ) → AllAlike (length code.registers) until (suc place) (arrivals v e q.trees code q.pending.items) (leaves v variable o (guarded v d p.trees code s) (arrivals v d p.trees code p.pending.items))
 
 -- an instruction has been passed over: what the events and the rest of the code tell is the same as before it
-pub record Visits (until : List ℕ) (code : Listing) (place : ℕ) (i : Instruction) (d e : List Node) (p q : Pass) : Type 0 where
+pub record Visits (until : List ℕ) (code : Listing) (place variable : ℕ) (i : Instruction) (d e : List Node) (p q : Pass) : Type 0 where
   pub within : PassIn e code q
   pub size : suc (length q.pending.items) ≡ length p.pending.items
-  pub goes : (v : ℕ → ℕ) (rest : List Instruction) → is_static_code (i ∷ rest) ≡ true → Covers (length code.registers) until (suc place) rest
-      → seen v e q.events.items ++ told v (length code.instructions) (suc place) rest (arrivals v e q.trees code q.pending.items) ≡ seen v d p.events.items ++ told v (length code.instructions) place (i ∷ rest) (arrivals v d p.trees code p.pending.items)
+  pub static : is_static i.operation ≡ true → AreStatic d p.events.items → AreStatic e q.events.items
+  pub goes : (v : ℕ → ℕ) (rest : List Instruction) → Covers (length code.registers) until (suc place) rest
+      → seen v e q.events.items ++ told v code.blocks (variable + variables_of code.blocks i.operation) rest (arrivals v e q.trees code q.pending.items) ≡ seen v d p.events.items ++ told v code.blocks variable (i ∷ rest) (arrivals v d p.trees code p.pending.items)

@@ -8,7 +8,7 @@ use Rattle.goto_prog.specs.declared.code.Operation.TheVariants as operations
 use Rattle.goto_prog.specs.declared.code.Instruction.{Instruction}
 use Rattle.goto_prog.specs.Meaning.{Memory, register}
 
--- ---- the registers that are read, two at most, by code without operations on pointers
+-- ---- the registers that are read, three at most
 
 abbrev pub first_checked : Condition → Option ℕ
 first_checked (checks.Divisor b) = Some b
@@ -18,7 +18,10 @@ first_checked (checks.Negation t a) = Some a
 first_checked (checks.Count t u count) = Some count
 first_checked (checks.LeftShift t u a count) = Some a
 first_checked (checks.Returned a) = Some a
-first_checked _ = None
+first_checked (checks.Within p i t n size class) = Some p
+first_checked (checks.SameObject p q) = Some p
+first_checked (checks.Inside p count whole) = Some p
+first_checked (checks.AtMost a b most) = Some a
 
 abbrev pub second_checked : Condition → Option ℕ
 second_checked (checks.Divisor b) = None
@@ -28,7 +31,23 @@ second_checked (checks.Negation t a) = None
 second_checked (checks.Count t u count) = None
 second_checked (checks.LeftShift t u a count) = Some count
 second_checked (checks.Returned a) = None
-second_checked _ = None
+second_checked (checks.Within p i t n size class) = Some i
+second_checked (checks.SameObject p q) = Some q
+second_checked (checks.Inside p count whole) = None
+second_checked (checks.AtMost a b most) = Some b
+
+abbrev pub third_checked : Condition → Option ℕ
+third_checked (checks.Divisor b) = None
+third_checked (checks.Quotient t a b) = None
+third_checked (checks.Range op t a b) = None
+third_checked (checks.Negation t a) = None
+third_checked (checks.Count t u count) = None
+third_checked (checks.LeftShift t u a count) = None
+third_checked (checks.Returned a) = None
+third_checked (checks.Within p i t n size class) = Some size
+third_checked (checks.SameObject p q) = None
+third_checked (checks.Inside p count whole) = None
+third_checked (checks.AtMost a b most) = None
 
 abbrev pub first_read : Operation → Option ℕ
 first_read (operations.Constant r bits) = None
@@ -55,7 +74,22 @@ first_read (operations.Fail class) = None
 first_read (operations.Use a) = None
 first_read (operations.Call f first count into r) = None
 first_read (operations.Return v) = None
-first_read _ = None
+first_read (operations.Move r p i t n size class) = Some p
+first_read (operations.Offset r p count) = Some p
+first_read (operations.Same p q) = None
+first_read (operations.Distance r p q n) = Some p
+first_read (operations.Relate r op p q) = Some p
+first_read (operations.Take b to from p count whole) = Some p
+first_read (operations.Put b p from to count whole) = Some p
+first_read (operations.Read b to p count) = Some p
+first_read (operations.Write p b from count first) = Some p
+first_read (operations.Look r p subscript) = Some p
+first_read (operations.Fill b r) = Some r
+first_read (operations.Alloc r b size readonly heap) = Some size
+first_read (operations.Die p) = Some p
+first_read (operations.Free p) = Some p
+first_read (operations.MayFail r) = None
+first_read (operations.Limit a b) = None
 
 abbrev pub second_read : Operation → Option ℕ
 second_read (operations.Constant r bits) = None
@@ -82,9 +116,66 @@ second_read (operations.Fail class) = None
 second_read (operations.Use a) = None
 second_read (operations.Call f first count into r) = None
 second_read (operations.Return v) = None
-second_read _ = None
+second_read (operations.Move r p i t n size class) = Some i
+second_read (operations.Offset r p count) = None
+second_read (operations.Same p q) = None
+second_read (operations.Distance r p q n) = Some q
+second_read (operations.Relate r op p q) = Some q
+second_read (operations.Take b to from p count whole) = None
+second_read (operations.Put b p from to count whole) = None
+second_read (operations.Read b to p count) = None
+second_read (operations.Write p b from count first) = None
+second_read (operations.Look r p subscript) = None
+second_read (operations.Fill b r) = None
+second_read (operations.Alloc r b size readonly heap) = None
+second_read (operations.Die p) = None
+second_read (operations.Free p) = None
+second_read (operations.MayFail r) = None
+second_read (operations.Limit a b) = None
 
--- ---- the block whose bytes are read
+abbrev pub third_read : Operation → Option ℕ
+third_read (operations.Constant r bits) = None
+third_read (operations.Copy r a) = None
+third_read (operations.Load r t b offset) = None
+third_read (operations.Store b offset count a) = None
+third_read (operations.Clear b size) = None
+third_read (operations.CopyBytes into to from offset count) = None
+third_read (operations.Convert r from to a) = None
+third_read (operations.Sign r op t a) = None
+third_read (operations.Arithmetic r op t u a b) = None
+third_read (operations.Compare r op t a b) = None
+third_read (operations.IsZero r a) = None
+third_read (operations.Skip n) = None
+third_read (operations.SkipIfZero a n) = None
+third_read (operations.Check c) = third_checked c
+third_read (operations.Assert a) = None
+third_read (operations.Assume a) = None
+third_read (operations.Draw r bits) = None
+third_read (operations.ReadObject b to k offset count) = None
+third_read (operations.WriteObject k offset b from count) = None
+third_read operations.Exit = None
+third_read (operations.Fail class) = None
+third_read (operations.Use a) = None
+third_read (operations.Call f first count into r) = None
+third_read (operations.Return v) = None
+third_read (operations.Move r p i t n size class) = Some size
+third_read (operations.Offset r p count) = None
+third_read (operations.Same p q) = None
+third_read (operations.Distance r p q n) = None
+third_read (operations.Relate r op p q) = None
+third_read (operations.Take b to from p count whole) = None
+third_read (operations.Put b p from to count whole) = None
+third_read (operations.Read b to p count) = None
+third_read (operations.Write p b from count first) = None
+third_read (operations.Look r p subscript) = None
+third_read (operations.Fill b r) = None
+third_read (operations.Alloc r b size readonly heap) = None
+third_read (operations.Die p) = None
+third_read (operations.Free p) = None
+third_read (operations.MayFail r) = None
+third_read (operations.Limit a b) = None
+
+-- ---- the block whose bytes are read: a draw of several words reads how many there are
 
 abbrev pub block_read : Operation → Option ℕ
 block_read (operations.Constant r bits) = None
@@ -111,7 +202,22 @@ block_read (operations.Fail class) = None
 block_read (operations.Use a) = None
 block_read (operations.Call f first count into r) = None
 block_read (operations.Return v) = None
-block_read _ = None
+block_read (operations.Move r p i t n size class) = None
+block_read (operations.Offset r p count) = None
+block_read (operations.Same p q) = None
+block_read (operations.Distance r p q n) = None
+block_read (operations.Relate r op p q) = None
+block_read (operations.Take b to from p count whole) = Some from
+block_read (operations.Put b p from to count whole) = Some from
+block_read (operations.Read b to p count) = None
+block_read (operations.Write p b from count first) = Some b
+block_read (operations.Look r p subscript) = None
+block_read (operations.Fill b r) = Some b
+block_read (operations.Alloc r b size readonly heap) = Some b
+block_read (operations.Die p) = None
+block_read (operations.Free p) = None
+block_read (operations.MayFail r) = None
+block_read (operations.Limit a b) = None
 
 -- ---- `until` gives for each register, and behind them for each block, the place behind its last read
 
@@ -125,7 +231,7 @@ module _ (registers : ℕ) where
   IsBlockRead until place (Some b) = IsRead until place (Some (registers + b))
 
   abbrev pub AreRead : List ℕ → ℕ → Operation → Type 0
-  AreRead until place o = IsRead until place (first_read o) × IsRead until place (second_read o) × IsBlockRead until place (block_read o)
+  AreRead until place o = IsRead until place (first_read o) × IsRead until place (second_read o) × IsRead until place (third_read o) × IsBlockRead until place (block_read o)
 
   -- no instruction of the code, the first of which is at this place, reads a register or a block behind that
   abbrev pub Covers : List ℕ → ℕ → List Instruction → Type 0

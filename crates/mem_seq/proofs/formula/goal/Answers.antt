@@ -1,6 +1,6 @@
 use Rattle.std.proofs.Common.{◌-◌, arith}
 use Rattle.std.proofs.lemmas.List.{get_or_default}
-use Rattle.mem_seq.proofs.Building.{notes_long, event_there, note_in_stays, looking_none, looking_step, looking_whole}
+use Rattle.mem_seq.proofs.Building.{notes_long, event_there, static_there, note_in_stays, looking_none, looking_step, looking_whole}
 use Rattle.mem_seq.proofs.formula.goal.Goals as goal
 
 pub looking-init : goal.looking-init
@@ -12,6 +12,9 @@ bounds-notes-at c = omega (arith, c.looking.invariant.within, c.looking-test.tru
 
 pub part_at-requires-clause-event : goal.part_at-requires-clause-event
 part_at-requires-clause-event c = event_there c.args.dag.now c.looking.dag c.args.events.now (c.looking.at - 1) c.index-events-at.result c.looking.invariant.extends c.requires.within (omega (arith, c.looking.invariant.within, c.looking-test.true)) c.index-events-at.is
+
+pub part_at-requires-clause-plain : goal.part_at-requires-clause-plain
+part_at-requires-clause-plain c = static_there c.args.dag.now c.looking.dag c.args.events.now (c.looking.at - 1) c.index-events-at.result c.looking.invariant.extends c.requires.plain (omega (arith, c.looking.invariant.within, c.looking-test.true)) c.index-events-at.is
 
 pub part_at-requires-clause-note : goal.part_at-requires-clause-note
 part_at-requires-clause-note c = note_in_stays c.args.dag.now c.looking.dag _ c.looking.invariant.extends (c.requires.notes_within (c.looking.at - 1) _ (omega (arith, c.looking.invariant.within, c.looking-test.true, notes_long _ c.args.dag.now c.args.events.now c.args.notes.now c.requires.notes)))

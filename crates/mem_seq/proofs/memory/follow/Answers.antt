@@ -7,11 +7,17 @@ use Rattle.mem_seq.specs.Goals.{gives}
 use Rattle.mem_seq.specs.Memories.{StandsFor, written_in}
 use Rattle.mem_seq.proofs.Written.{stands_stay}
 use Rattle.mem_seq.proofs.Breaking.{event_stays}
-use Rattle.mem_seq.proofs.Building.{event_in_stays}
+use Rattle.mem_seq.proofs.Building.{event_in_stays, static_kind_stays}
 use Rattle.mem_seq.proofs.memory.follow.Goals as goal
 
 pub note-requires-clause-event : goal.note-requires-clause-event
 note-requires-clause-event c = event_in_stays c.replaced.new.dag c.learn.new.dag c.in_ok-other.other c.learn.ensures.extends c.in_ok-other.ensures.event
+
+pub note-requires-clause-plain : goal.note-requires-clause-plain
+note-requires-clause-plain c = static_kind_stays c.replaced.new.dag c.learn.new.dag c.in_ok-other.other.kind c.learn.ensures.extends c.in_ok-other.ensures.plain
+
+pub returns-clause-plain : goal.returns-clause-plain
+returns-clause-plain c = static_kind_stays c.replaced.new.dag c.note.new.dag c.in_ok-other.other.kind (extends_more c.replaced.new.dag c.learn.new.dag c.note.new.dag c.learn.ensures.extends c.note.ensures.extends) c.in_ok-other.ensures.plain
 
 pub returns-clause-event : goal.returns-clause-event
 returns-clause-event c = event_in_stays c.replaced.new.dag c.note.new.dag c.in_ok-other.other (extends_more c.replaced.new.dag c.learn.new.dag c.note.new.dag c.learn.ensures.extends c.note.ensures.extends) c.in_ok-other.ensures.event

@@ -1,9 +1,12 @@
-use Rattle.mem_seq.proofs.Building.{kind_in_stays}
+use Rattle.mem_seq.proofs.Building.{kind_in_stays, static_kind_stays}
 use Rattle.mem_seq.proofs.Learning.{same_event}
 use Rattle.mem_seq.proofs.replacing.replaced.Goals as goal
 
 pub replaced_kind-requires-clause-kind : goal.replaced_kind-requires-clause-kind
 replaced_kind-requires-clause-kind c = kind_in_stays c.args.dag.now c.image.new.dag c.args.event.now.kind c.image.ensures.extends c.requires.event.kind
+
+pub replaced_kind-requires-clause-plain : goal.replaced_kind-requires-clause-plain
+replaced_kind-requires-clause-plain c = static_kind_stays c.args.dag.now c.image.new.dag c.args.event.now.kind c.image.ensures.extends c.requires.plain
 
 pub returns-clause-same : goal.returns-clause-same
 returns-clause-same c = λ v agrees.

@@ -15,5 +15,5 @@ tell_and_go-requires-clause-event c = assumed_in _ _ _ c.args.plan.now.code.now 
 
 pub returns-clause-passes : goal.returns-clause-passes
 returns-clause-passes c =
-    passes_assumed _ _ _ _ _ c.args.dag.now c.zero_test.new.dag c.tell_and_go.new.dag c.args.here.slot c.args.self.now _ c.zero_test.ensures.extends c.requires.reached.within c.requires.reached.slot c.args.operand c.register-node.result c.in_ok-failing.failing c.in_ok-failing.ensures.made c.register-node.ensures.value
+    passes_assumed _ _ _ _ _ _ c.args.dag.now c.zero_test.new.dag c.tell_and_go.new.dag c.args.here.slot c.args.self.now _ c.zero_test.ensures.extends c.requires.reached.within c.requires.reached.slot c.args.operand c.register-node.result c.in_ok-failing.failing c.in_ok-failing.ensures.made c.register-node.ensures.value
     c.in_ok-tell_and_go.ensures.tells

@@ -22,7 +22,7 @@ arrive-requires-2 c = record {
 
 pub returns-clause-passes : goal.returns-clause-passes
 returns-clause-passes c =
-    passes_branch _ _ _ _ _ c.args.operand c.args.count c.args.dag.now c.split.new.dag c.arrive.new.dag c.arrive-2.new.dag c.args.here.slot _ _ c.args.self.now c.arrive.new.self _ c.split.ensures.extends c.arrive.ensures.extends c.arrive-2.ensures.extends c.requires.reached.within
+    passes_branch _ _ _ _ _ _ c.args.operand c.args.count c.args.dag.now c.split.new.dag c.arrive.new.dag c.arrive-2.new.dag c.args.here.slot _ _ c.args.self.now c.arrive.new.self _ c.split.ensures.extends c.arrive.ensures.extends c.arrive-2.ensures.extends c.requires.reached.within
     c.in_ok-zero.ensures.first_within c.in_ok-zero.ensures.first c.in_ok-zero.ensures.second c.in_ok-arrive.ensures.arrives c.in_ok-arrive-2.ensures.arrives
 
 pub returns-in_err-arrive-2-clause-extends : goal.returns-in_err-arrive-2-clause-extends

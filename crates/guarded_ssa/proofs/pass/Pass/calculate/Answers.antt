@@ -20,5 +20,5 @@ arrive-requires c =
 pub returns-clause-passes : goal.returns-clause-passes
 returns-clause-passes c =
     let grown : Pass = record { events = c.args.self.now.events; pending = c.args.self.now.pending; trees = c.calculated.new.trees } in
-    passes_calculated _ _ _ _ _ c.args.operation c.args.dag.now c.calculated.new.dag c.arrive.new.dag c.args.here.slot c.in_ok-next.next c.args.self.now grown _ c.calculated.ensures.extends c.requires.reached.within c.calculated.ensures.keeps refl refl c.arrive.ensures.extends c.requires.calculation c.in_ok-next.ensures.guarded
+    passes_calculated _ _ _ _ _ _ c.args.operation c.args.dag.now c.calculated.new.dag c.arrive.new.dag c.args.here.slot c.in_ok-next.next c.args.self.now grown _ c.calculated.ensures.extends c.requires.reached.within c.calculated.ensures.keeps refl refl c.arrive.ensures.extends c.requires.calculation c.in_ok-next.ensures.guarded
     c.in_ok-arrive.ensures.arrives

@@ -15,5 +15,5 @@ tell_and_go-requires-clause-event c = failing_in _ _ _ c.args.plan.now.code.now 
 
 pub returns-clause-passes : goal.returns-clause-passes
 returns-clause-passes c =
-    passes_checked _ _ _ _ _ c.args.dag.now c.fails.new.dag c.tell_and_go.new.dag c.args.here.slot c.args.self.now _ c.fails.ensures.extends c.requires.reached.within c.requires.reached.slot c.args.condition c.in_ok-failing.failing _ c.in_ok-failing.ensures.made c.requires.fits c.class_of-class.ensures
+    passes_checked _ _ _ _ _ _ c.args.dag.now c.fails.new.dag c.tell_and_go.new.dag c.args.here.slot c.args.self.now _ c.fails.ensures.extends c.requires.reached.within c.requires.reached.slot c.args.condition c.in_ok-failing.failing _ c.in_ok-failing.ensures.made c.requires.fits c.class_of-class.ensures
     c.in_ok-tell_and_go.ensures.tells

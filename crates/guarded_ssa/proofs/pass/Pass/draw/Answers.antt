@@ -2,7 +2,7 @@ use Rattle.std.proofs.Common.{refl}
 use Rattle.guarded_ssa.specs.declared.pass.Pass.{Pass}
 use Rattle.word_dag.proofs.Grown.{extends_more}
 use Rattle.guarded_ssa.proofs.Stays.{pass_moves, slot_grows}
-use Rattle.guarded_ssa.proofs.Passing.{passes_draw, draw_in}
+use Rattle.guarded_ssa.proofs.Passing.{passes_draw, event_in, drawn_word}
 use Rattle.guarded_ssa.proofs.pass.Pass.draw.Goals as goal
 
 pub put-requires-clause-within : goal.put-requires-clause-within
@@ -19,12 +19,13 @@ tell_and_go-requires-clause-reached c =
     }
 
 pub tell_and_go-requires-clause-event : goal.tell_and_go-requires-clause-event
-tell_and_go-requires-clause-event c = draw_in _ _ _ _ c.args.plan.now.code.now c.args.here.slot _ _ _ _ _ c.make.ensures.extends c.make-2.ensures.extends c.requires.reached.slot c.in_ok-answer.ensures.made
+tell_and_go-requires-clause-event c =
+    event_in _ _ _ c.args.plan.now.code.now c.args.here.slot _ _ _ (extends_more _ _ _ c.make.ensures.extends c.make-2.ensures.extends) c.requires.reached.slot (drawn_word _ _ _ _ _ _ c.make-2.ensures.extends c.in_ok-answer.ensures.made)
 
 pub returns-clause-passes : goal.returns-clause-passes
 returns-clause-passes c =
     let grown : Pass = record { events = c.args.self.now.events; pending = c.args.self.now.pending; trees = c.put.new.trees } in
-    passes_draw _ _ _ _ _ c.args.into c.args.bits _ c.args.dag.now c.make.new.self c.make-2.new.self c.tell_and_go.new.dag c.args.here.slot c.in_ok-next.next c.in_ok-answer.answer c.in_ok-word.word c.args.self.now grown _ c.make.ensures.extends c.make-2.ensures.extends c.requires.reached.within c.put.ensures.keeps refl refl
+    passes_draw _ _ _ _ _ _ c.args.into c.args.bits _ c.args.dag.now c.make.new.self c.make-2.new.self c.tell_and_go.new.dag c.args.here.slot c.in_ok-next.next c.in_ok-answer.answer c.in_ok-word.word c.args.self.now grown _ c.make.ensures.extends c.make-2.ensures.extends c.requires.reached.within c.put.ensures.keeps refl refl
     c.requires.reached.slot c.in_ok-answer.ensures.made c.in_ok-word.ensures.made c.in_ok-next.ensures.guarded c.in_ok-tell_and_go.ensures.tells
 
 pub returns-in_err-tell_and_go-clause-extends : goal.returns-in_err-tell_and_go-clause-extends

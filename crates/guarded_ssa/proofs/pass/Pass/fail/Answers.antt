@@ -6,4 +6,4 @@ tell_and_go-requires-clause-event c = failed_in _ c.args.self.now.trees c.args.p
 
 pub returns-clause-passes : goal.returns-clause-passes
 returns-clause-passes c =
-    passes_failed _ _ _ _ _ c.args.dag.now c.tell_and_go.new.dag c.args.here.slot c.args.self.now _ c.requires.within c.requires.slot _ c.in_ok-tell_and_go.ensures.tells
+    passes_failed _ _ _ _ _ _ c.args.dag.now c.tell_and_go.new.dag c.args.here.slot c.args.self.now _ c.requires.within c.requires.slot _ c.in_ok-tell_and_go.ensures.tells

@@ -6,4 +6,4 @@ tell_and_go-requires-clause-event c = stopped_in _ c.args.self.now.trees c.args.
 
 pub returns-clause-passes : goal.returns-clause-passes
 returns-clause-passes c =
-    passes_stopped _ _ _ _ _ c.args.dag.now c.tell_and_go.new.dag c.args.here.slot c.args.self.now _ c.requires.reached.within c.requires.reached.slot _ c.requires.stops c.requires.plain c.in_ok-tell_and_go.ensures.tells
+    passes_stopped _ _ _ _ _ _ c.args.dag.now c.tell_and_go.new.dag c.args.here.slot c.args.self.now _ c.requires.reached.within c.requires.reached.slot _ c.requires.stops c.in_ok-tell_and_go.ensures.tells

@@ -17,10 +17,10 @@ step-requires-clause-reached c =
 pub returns-in_ok-step-in-Some-Some-clause-visits : goal.returns-in_ok-step-in-Some-Some-clause-visits
 returns-in_ok-step-in-Some-Some-clause-visits c =
     let p1 : Pass = record { events = c.args.self.now.events; pending = c.pop_front.new.self; trees = c.args.self.now.trees } in
-    visits_slot _ _ _ _ _ _ c.args.self.now p1 _ c.in-Some-Some.slot (c.in-Some-Some.ensures.items ∙ ap (λ s. s ∷ c.pop_front.new.self.items) c.in-Some-Some.field-0-is) refl refl c.in_ok-step-in-Some-Some.ensures.passes
+    visits_slot _ _ _ _ _ _ _ c.args.self.now p1 _ c.in-Some-Some.slot (c.in-Some-Some.ensures.items ∙ ap (λ s. s ∷ c.pop_front.new.self.items) c.in-Some-Some.field-0-is) refl refl c.in_ok-step-in-Some-Some.ensures.passes
 
 pub returns-in-Some-None-clause-visits : goal.returns-in-Some-None-clause-visits
 returns-in-Some-None-clause-visits c =
     let q : Pass = record { events = c.args.self.now.events; pending = c.pop_front.new.self; trees = c.args.self.now.trees } in
     let pending = c.in-Some-None.ensures.items ∙ ap (λ s. s ∷ c.pop_front.new.self.items) c.in-Some-None.field-0-is in
-    visits_none _ _ _ _ c.args.dag.now c.args.self.now q (popped_in _ _ c.args.self.now q _ c.requires.within pending refl refl) pending refl refl
+    visits_none _ _ _ _ _ c.args.dag.now c.args.self.now q (popped_in _ _ c.args.self.now q _ c.requires.within pending refl refl) pending refl refl
