@@ -1,17 +1,19 @@
 -- The parts of a type name, from left to right, and the lengths of suffixes.
-use Rattle.std.proofs.Common.{◌≡◌, ◌<◌, ◌+◌, ◌++◌, ℕ, Bool, true, List, [], ◌∷◌, length, get_or, drop, map, Option, Some, None, Result, Ok, Err, refl, sym, ap, ◌∙◌}
+use Rattle.std.proofs.Common.{◌≡◌, ◌<◌, ◌+◌, ◌++◌, ℕ, Bool, true, List, [], ◌∷◌, length, get_or, drop, map, Option, Some, None, Result, Ok, Err, refl, sym, ap, ◌∙◌, ◌≤◌, subst, arith}
 use Rattle.std.proofs.lemmas.List.{drop_more, append_assoc}
 use Rattle.c_tree.specs.declared.specifier.TypeSpecifier.{TypeSpecifier}
 use Rattle.c_tree.specs.declared.expr.ArraySuffix.{ArraySuffix}
 use Rattle.c_tree.specs.declared.expr.ArraySuffix as array_suffixes
-use Rattle.c_tree.specs.Tree.{Suffixes, no_suffix, view_type_part, view_suffix, suffixes_of, first_line}
+use Rattle.c_tree.specs.Tree.{Suffixes, no_suffix, view_type_part, view_suffix, suffixes_of, first_line, Declared, behind_pointers}
 use Rattle.c_tree.specs.Tree.{view as tree}
+use Rattle.c_scope.specs.declared.fault.TypingError.TheVariants as errors
 use Rattle.c_scope.specs.declared.fault.TypingError.{TypingError}
 use Rattle.c_scope.specs.Scopes.{Scoped}
-use Rattle.c_scope.specs.Faults.{◌>>=◌, Fault}
+use Rattle.c_scope.specs.Faults.{◌>>=◌, Fault, Fails}
 use Rattle.c_scope.specs.Types.{Said, with_part, with_parts}
-use Rattle.c_elab_expr.specs.Typing.{Adds, bound, operand_in, suffix_lengths, behind}
+use Rattle.c_elab_expr.specs.Typing.{Adds, bound, operand_in, suffix_lengths, behind, RefusesFirst, lengths}
 use Rattle.c_elab_expr.proofs.Arguments.{fails_on}
+use Rattle.c_tree.specs.declared.expr.PointerMark.{PointerMark}
 
 -- ---- parts of a type name
 
@@ -91,3 +93,12 @@ pub inside_adds : (r : Result (Unit {0}) TypingError) (before middle now : List 
     → Adds r before now (inner >>= λ ms. outer >>= λ ns. Ok (ms ++ ns))
 inside_adds (Ok u) before middle now inner outer e g = inside_more before middle now inner outer e g
 inside_adds (Err f) before middle now inner outer e g = fails_on f outer (inner >>= λ ms. outer >>= λ ns. Ok (ms ++ ns)) (λ h bad. inside_fails before middle inner outer h e bad) g
+
+-- pointers before a declarator are refused
+pub lengths_refused : (e : TypingError) (s : Scoped) (m : Bool) (ps : List PointerMark) (d : Declared) → RefusesFirst e ps → Fails e (lengths s m (behind_pointers ps d))
+lengths_refused e s m [] d h = absurd h
+lengths_refused e s m (p ∷ ps) d h = subst (λ (x : TypingError). Fails x (lengths s m (behind_pointers (p ∷ ps) d))) (sym h) refl
+
+pub first_refused : (ps : List PointerMark) (p : PointerMark) → 1 ≤ length ps → RefusesFirst (errors.Typing (get_or ps 0 p).line 7) ps
+first_refused [] p h = absurd (omega arith)
+first_refused (q ∷ ps) p h = refl

@@ -12,7 +12,7 @@ use Rattle.c_tree.specs.declared.expr.UnaryOp.{UnaryOp}
 use Rattle.c_tree.specs.declared.expr.UnaryOp.TheVariants as unaries
 use Rattle.c_tree.specs.declared.expr.StepOp.{StepOp}
 use Rattle.c_tree.specs.declared.expr.StepOp.TheVariants as postfixes
-use Rattle.c_tree.specs.Tree.{Tree, Trees, constant, character, strings, name, parens, unary, cast, sizeof_expr, sizeof_type, step, member, binary, choice, assign, comma, call, none, more, first_line}
+use Rattle.c_tree.specs.Tree.{Tree, Trees, constant, character, strings, name, parens, unary, cast, sizeof_expr, sizeof_type, step, member, binary, choice, assign, comma, call, none, more, first_line, address, dereference, arrow, subscript}
 use Rattle.c_types.specs.declared.integers.IntegerType.{IntegerType}
 use Rattle.c_types.specs.declared.types.ValueType.{ValueType}
 use Rattle.c_types.specs.declared.types.ValueType.TheVariants.{Void, Integer}
@@ -784,6 +784,8 @@ module _ (scope : Scoped) where
       well_typed m w (parens line e) = well_typed m w e
       well_typed m w (unary line op e) =
           bind Fits Fits (operand_in scope m true e) _ (used_on_fits m true (bare_line e) (typed scope m true e) (well_typed m true e)) (λ x good. on_same_line Fits line _ (unary_fits line op x good))
+      well_typed m w (address line e) = refused Fits _
+      well_typed m w (dereference line e) = refused Fits _
       well_typed m w (cast line parts d e) =
           bind (λ (t : CType). Unit {0}) Fits (type_name scope parts d (lengths scope m d)) _ (λ t _. tt) (λ t _.
           bind Fits Fits (operand_in scope m (is_wanted t) e) _ (used_on_fits m (is_wanted t) (bare_line e) (typed scope m (is_wanted t) e) (well_typed m (is_wanted t) e)) (λ x good. on_same_line Fits line _ (cast_fits line t x good)))
@@ -794,6 +796,8 @@ module _ (scope : Scoped) where
           bind Fits Fits (operand_in scope m true e) _ (used_on_fits m true (bare_line e) (typed scope m true e) (well_typed m true e)) (λ x good. on_same_line Fits (first_line e) _ (postfix_fits line op x good))
       well_typed m w (member line e n) =
           bind Fits Fits (operand_in scope m true e) _ (used_on_fits m true (bare_line e) (typed scope m true e) (well_typed m true e)) (λ x good. on_same_line Fits (first_line e) _ (member_fits line x n good))
+      well_typed m w (arrow line e n) = refused Fits _
+      well_typed m w (subscript line a b) = refused Fits _
       well_typed m w (binary line op a b) =
           bind Fits Fits (operand_in scope m true a) _ (used_on_fits m true (bare_line a) (typed scope m true a) (well_typed m true a)) (λ x good.
           bind Fits Fits (operand_in scope m true b) _ (used_on_fits m true (bare_line b) (typed scope m true b) (well_typed m true b)) (λ y fine.

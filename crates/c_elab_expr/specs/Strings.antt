@@ -3,7 +3,7 @@ use Rattle.std.specs.Prelude.{ℕ, zero, suc, ◌+◌, ◌==◌, List, [], ◌�
 use Rattle.c_lexer.specs.Forms.{is_empty}
 use Rattle.c_lexer.specs.Constants.{digits}
 use Rattle.c_lexer.specs.Literals.{enclosed}
-use Rattle.c_tree.specs.Tree.{Tree, constant, character, strings, name, parens, unary, cast, sizeof_expr, sizeof_type, step, member, binary, choice, assign, comma, call}
+use Rattle.c_tree.specs.Tree.{Tree, constant, character, strings, name, parens, unary, cast, sizeof_expr, sizeof_type, step, member, binary, choice, assign, comma, call, address, dereference, arrow, subscript}
 
 -- how many bytes spell an escape behind its backslash: x and all the hexadecimal digits, one to three octal digits, or one byte
 abbrev pub escape_length : List ℕ → ℕ
@@ -40,11 +40,15 @@ strings_of (strings line parts) = Some parts
 strings_of (name line n) = None
 strings_of (parens line e) = strings_of e
 strings_of (unary line op e) = None
+strings_of (address line e) = None
+strings_of (dereference line e) = None
 strings_of (cast line parts d e) = None
 strings_of (sizeof_expr line e) = None
 strings_of (sizeof_type line parts d) = None
 strings_of (step line op e) = None
 strings_of (member line e n) = None
+strings_of (arrow line e n) = None
+strings_of (subscript line a b) = None
 strings_of (binary line op a b) = None
 strings_of (choice line test a b) = None
 strings_of (assign line op a b) = None

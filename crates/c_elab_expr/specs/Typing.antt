@@ -2,9 +2,10 @@
 -- whose last token comes first among those that break a rule and whose parts are all typed (C11 6.5).
 use Rattle.std.specs.Prelude.{◌≡◌, ℕ, ◌+◌, ◌++◌, ◌&&◌, Bool, true, false, not, codes, List, [], ◌∷◌, Option, Some, None, Result, Ok, Err}
 use Rattle.std.specs.Str.{bytes_eq}
-use Rattle.c_tree.specs.Tree.{TypePart, Tree, Trees, Declared, Suffixes, unnamed, named, inside, no_suffix, bounded, unbounded, constant, character, strings, name, parens, unary, cast, sizeof_expr, sizeof_type, step, member, binary, choice, assign, comma, call, none, more, first_line}
+use Rattle.c_tree.specs.Tree.{TypePart, Tree, Trees, Declared, Suffixes, unnamed, named, inside, no_suffix, bounded, unbounded, constant, character, strings, name, parens, unary, cast, sizeof_expr, sizeof_type, step, member, binary, choice, assign, comma, call, none, more, first_line, address, dereference, arrow, subscript, pointing}
 use Rattle.c_scope.specs.declared.meaning.Meaning.{Meaning}
 use Rattle.c_scope.specs.declared.fault.TypingError.{TypingError}
+use Rattle.c_scope.specs.declared.fault.TypingError.TheVariants as errors
 use Rattle.c_types.specs.Types.{CType, Completed}
 use Rattle.c_types.specs.Types as ctypes
 use Rattle.c_scope.specs.Scopes.{Scoped, meaning_of}
@@ -14,6 +15,7 @@ use Rattle.c_elab_expr.specs.Strings.{strings_of, strings_length}
 use Rattle.c_scope.specs.Faults.{◌>>=◌, required, Fault, fault, on_line, Fails}
 use Rattle.c_operands.specs.Nodes.{constant_node, character_node, size_node}
 use Rattle.c_operands.specs.Operands.{Operand, value, OperandNode, used, name_node, member_node, operand_bytes, sized_operand, constant_in, cast_operand, unary_operand, postfix_operand, binary_operand, choice_operand, assign_operand, comma_operand, call_node}
+use Rattle.c_tree.specs.declared.expr.PointerMark.{PointerMark}
 
 -- the line of an expression's first token without the parentheses around it
 abbrev pub bare_line : Tree → ℕ
@@ -116,6 +118,8 @@ abbrev mutual
   typed s m w (unary line op e) = do
     x ← used_on m true (bare_line e) (typed s m true e)
     on_line line (unary_operand line op x)
+  typed s m w (address line e) = Err (fault line 7)
+  typed s m w (dereference line e) = Err (fault line 7)
   typed s m w (cast line parts d e) = do
     t ← type_name s parts d (lengths s m d)
     x ← used_on m (is_wanted t) (bare_line e) (typed s m (is_wanted t) e)
@@ -131,6 +135,8 @@ abbrev mutual
   typed s m w (member line e n) = do
     x ← used_on m true (bare_line e) (typed s m true e)
     on_line (first_line e) (member_node s line x n)
+  typed s m w (arrow line e n) = Err (fault line 7)
+  typed s m w (subscript line a b) = Err (fault line 7)
   typed s m w (binary line op a b) = do
     x ← used_on m true (bare_line a) (typed s m true a)
     y ← used_on m true (bare_line b) (typed s m true b)
@@ -169,6 +175,7 @@ abbrev mutual
     inner ← lengths s m d
     outer ← suffix_lengths s m suffixes
     Ok (inner ++ outer)
+  lengths s m (pointing line qs d) = Err (fault line 7)
 
   pub suffix_lengths : Scoped → Bool → Suffixes → Result (List (Option ℕ)) Fault
   suffix_lengths s m no_suffix = Ok []
@@ -199,3 +206,8 @@ behind before typing = typing >>= λ ns. Ok (before ++ ns)
 abbrev pub Adds : Result (Unit {0}) TypingError → List (Option ℕ) → List (Option ℕ) → Result (List (Option ℕ)) Fault → Type 0
 Adds (Ok u) before now typing = behind before typing ≡ Ok now
 Adds (Err e) before now typing = Fails e typing
+
+-- rule 7: the first of pointers is refused, on its line
+abbrev pub RefusesFirst : TypingError → List PointerMark → Type 0
+RefusesFirst e [] = ⊥
+RefusesFirst e (p ∷ ps) = e ≡ errors.Typing p.line 7

@@ -8,4 +8,4 @@ mod typing;
 
 pub use strings::prove_string_length;
 pub use texts::strings_bytes;
-pub use typing::{bound, first_line, ignored, operand, typed};
+pub use typing::{bound, first_line, ignored, no_pointers, operand, typed};

@@ -1,7 +1,7 @@
 //! The typed operand of an expression.
 
-ghost use Rattle.std.specs.Prelude.{◌≡◌, ◌+◌, ℕ, List, true, false, map, Result, Ok, None, IfOk};
-ghost use Rattle.c_tree.specs.Tree.{first_line, view_name, view_type_part, view_declarator, view_suffix, no_suffix, suffixes_of};
+ghost use Rattle.std.specs.Prelude.{◌≡◌, ◌+◌, ℕ, List, true, false, map, Result, Ok, Err, None, [], IfOk, IfErr};
+ghost use Rattle.c_tree.specs.Tree.{first_line, view_name, view_type_part, view_core, view_declarator, view_suffix, no_suffix, suffixes_of};
 ghost use Rattle.c_tree.specs.Tree.{view as tree, views_of as trees};
 ghost use Rattle.c_types.specs.Types.{CType, view as type_view};
 ghost use Rattle.c_elab_expr.specs.Strings.{strings_of, strings_length};
@@ -9,8 +9,8 @@ ghost use Rattle.c_operands.specs.Nodes.{constant_node, character_node};
 ghost use Rattle.c_operands.specs.Operands.{Operand, value as number_operand, view_operand, is_typed_operand, name_node, member_node, cast_operand, unary_operand, postfix_operand, binary_operand, choice_operand, assign_operand};
 ghost use Rattle.c_scope.specs.Scopes.{meaning_of};
 ghost use Rattle.c_scope.specs.Types.{type_size};
-ghost use Rattle.c_scope.specs.Faults.{Gives, GivesNode, on_line, Fault};
-ghost use Rattle.c_elab_expr.specs.Typing.{Adds, bare_line, sized, used_on, node_on, both, node_on_both, comma_of, size_of_named, call_of, no_function, callee, called, is_main, is_used, bound, type_name, operand_size, is_wanted, typed, typed_arguments, operand_in, operand_by, operand, lengths, suffix_lengths};
+ghost use Rattle.c_scope.specs.Faults.{Gives, GivesNode, on_line, Fault, fault};
+ghost use Rattle.c_elab_expr.specs.Typing.{Adds, bare_line, sized, used_on, node_on, both, node_on_both, comma_of, size_of_named, call_of, no_function, callee, called, is_main, is_used, bound, type_name, operand_size, is_wanted, typed, typed_arguments, operand_in, operand_by, operand, lengths, suffix_lengths, RefusesFirst};
 
 use crate::calls::called;
 use crate::strings::{strings_length, strings_of};
@@ -24,7 +24,8 @@ use c_scope::{
 };
 use c_token::Constant;
 use c_tree::{
-    ArraySuffix, BinaryOp, Declarator, DeclaratorCore, Expr, Name, StepOp, TypeName, UnaryOp,
+    ArraySuffix, BinaryOp, Declarator, DeclaratorCore, Expr, Name, PointerMark, StepOp, TypeName,
+    UnaryOp,
 };
 use c_types::{Layouts, Ty};
 use std::alloc::{AllocError, Global};
@@ -40,11 +41,15 @@ pub fn first_line(expr: &Expr) -> u32
         Expr::Name { line, .. } => *line,
         Expr::Parens { line, .. } => *line,
         Expr::Unary { line, .. } => *line,
+        Expr::Address { line, .. } => *line,
+        Expr::Dereference { line, .. } => *line,
         Expr::Cast { line, .. } => *line,
         Expr::SizeofExpr { line, .. } => *line,
         Expr::SizeofType { line, .. } => *line,
         Expr::Step { operand, .. } => first_line(operand),
         Expr::Member { left, .. } => first_line(left),
+        Expr::Arrow { left, .. } => first_line(left),
+        Expr::Subscript { left, .. } => first_line(left),
         Expr::Binary { left, .. } => first_line(left),
         Expr::Choice { test, .. } => first_line(test),
         Expr::Assign { place, .. } => first_line(place),
@@ -507,15 +512,30 @@ fn add_suffixes(
     Ok(())
 }
 
+/// No pointers, or rule 7 on the line of the first.
+pub fn no_pointers(pointers: &[PointerMark]) -> Result<(), TypingError>
+    ensures none { IfOk result (λ _. pointers.now ≡ []) }
+    ensures first { IfErr result (λ e. RefusesFirst e pointers.now) }
+{
+    match pointers {
+        [] => Ok(()),
+        [first, ..] => Err(TypingError::Typing {
+            line: first.line,
+            rule: 7,
+        }),
+    }
+}
+
+// The lengths that a declarator has without the pointers before it.
 #[cycle(typing)]
-fn add_lengths(
+fn add_direct_lengths(
     alloc: Global,
     declarator: &Declarator,
     measured: bool,
     scope: &Scope,
     found: &mut Vec<Option<u64>>,
 ) -> Result<(), TypingError>
-    ensures { Adds result found.old.items found.new.items (lengths scope.now measured (view_declarator declarator.now)) }
+    ensures { Adds result found.old.items found.new.items (lengths scope.now measured (view_core declarator.now.core (suffixes_of declarator.now.suffixes.items))) }
 {
     match &declarator.core {
         DeclaratorCore::Absent => add_suffixes(alloc, &declarator.suffixes, measured, scope, found),
@@ -527,6 +547,20 @@ fn add_lengths(
             add_suffixes(alloc, &declarator.suffixes, measured, scope, found)
         }
     }
+}
+
+#[cycle(typing)]
+fn add_lengths(
+    alloc: Global,
+    declarator: &Declarator,
+    measured: bool,
+    scope: &Scope,
+    found: &mut Vec<Option<u64>>,
+) -> Result<(), TypingError>
+    ensures { Adds result found.old.items found.new.items (lengths scope.now measured (view_declarator declarator.now)) }
+{
+    no_pointers(&declarator.pointers)?;
+    add_direct_lengths(alloc, declarator, measured, scope, found)
 }
 
 // The lengths of a declarator's arrays, the outermost first, of which `[]` has none. Each bound is an integer constant
@@ -583,6 +617,13 @@ fn operand_size(
     }
 }
 
+// Rule 7 on this line.
+fn refused(line: u32) -> Result<CoreOperand, TypingError>
+    ensures { Gives view_operand result (Err (fault line 7)) }
+{
+    Err(TypingError::Typing { line, rule: 7 })
+}
+
 #[cycle(typing)]
 fn typed_expr(
     alloc: Global,
@@ -596,10 +637,7 @@ fn typed_expr(
     match expr {
         Expr::Constant { line, constant } => constant_at(alloc, *line, constant),
         Expr::Character { line, value } => character_at(alloc, *line, *value),
-        Expr::Strings { line, .. } => Err(TypingError::Typing {
-            line: *line,
-            rule: 7,
-        }),
+        Expr::Strings { line, .. } => refused(*line),
         Expr::Name { line, name } => name_at(alloc, *line, name, scope),
         Expr::Parens { inner, .. } => typed_expr(alloc, inner, measured, wanted, scope),
         Expr::Unary {
@@ -612,6 +650,8 @@ fn typed_expr(
             *operator,
             used_expr(alloc, operand, measured, scope),
         ),
+        Expr::Address { line, .. } => refused(*line),
+        Expr::Dereference { line, .. } => refused(*line),
         Expr::Cast {
             line,
             type_name,
@@ -647,6 +687,8 @@ fn typed_expr(
             scope,
             left,
         ),
+        Expr::Arrow { line, .. } => refused(*line),
+        Expr::Subscript { line, .. } => refused(*line),
         Expr::Binary {
             line,
             operator,

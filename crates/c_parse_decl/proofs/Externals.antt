@@ -149,7 +149,7 @@ parts_then bytes names ps left right y some s w d q e =
 full_then : (bytes : List ℕ) (names : Scope) (ps : Parts) (d : Full) (left right : List Token) (y : Read Outer) → SpellsFull bytes d left → full_has_name d ≡ true → IsWellFull names false d → full_depth d ≤ 400 → Opens Follows right → outer_behind bytes ((name_of d, have_typedef ps) ∷ names) ps d right (token_at (is_mark marks.LeftBrace) right) ≡ y → outer_from bytes names ps (left ++ right) (token_at (is_mark marks.Semicolon) (left ++ right)) ≡ y
 unfolding first_at
 full_then bytes names ps d left right y s h w deep o e =
-    ap (outer_from bytes names ps (left ++ right)) (opens_not marks.Semicolon left right (full_opens_not bytes marks.Semicolon d left refl refl (named_full d h) s))
+    ap (outer_from bytes names ps (left ++ right)) (opens_not marks.Semicolon left right (full_opens_not bytes marks.Semicolon d left refl refl refl (named_full d h) s))
     ∙ bind_gives (full_at bytes 400 false names (left ++ right)) (λ d. outer_behind bytes ((name_of d.0, have_typedef ps) ∷ names) ps d.0 d.1 (token_at (is_mark marks.LeftBrace) d.1)) (d, right) y
     (full_again bytes d 400 false names left right s w (λ _. h) deep o) e
 

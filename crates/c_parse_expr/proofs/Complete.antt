@@ -9,7 +9,7 @@ use Rattle.c_token.specs.Spelling.{text_of}
 use Rattle.c_tree.specs.declared.expr.BinaryOp.{BinaryOp}
 use Rattle.c_tree.specs.declared.expr.UnaryOp.{UnaryOp}
 use Rattle.c_tree.specs.declared.expr.StepOp.{StepOp}
-use Rattle.c_tree.specs.Tree.{TypePart, Tree, Trees, Declared, Suffixes, constant, character, strings, name, parens, unary, cast, sizeof_expr, sizeof_type, step, member, binary, choice, assign, comma, call, none, more, unnamed, named, inside, no_suffix, bounded, unbounded, depth, depth_of}
+use Rattle.c_tree.specs.Tree.{TypePart, Tree, Trees, Declared, Suffixes, constant, character, strings, name, parens, unary, address, dereference, cast, sizeof_expr, sizeof_type, step, member, arrow, subscript, binary, choice, assign, comma, call, none, more, unnamed, named, inside, pointing, no_suffix, bounded, unbounded, depth, depth_of}
 use Rattle.c_tree.specs.Names.{Scope, is_type}
 use Rattle.c_tree.specs.Tables.{strength_of, operand_level, level_of}
 use Rattle.c_tree.specs.Spelling.{Spells, SpellsArguments, SpellsRest, IsWell, AreWell, has_name}
@@ -345,11 +345,15 @@ mutual
   again bytes names (name line n) = again_name bytes names line n
   again bytes names (parens line e) = again_parens bytes names line e (again bytes names e)
   again bytes names (unary line op e) = again_unary bytes names line op e (again bytes names e)
+  again bytes names (address line e) = λ n k own rest s w h l i. absurd w
+  again bytes names (dereference line e) = λ n k own rest s w h l i. absurd w
   again bytes names (cast line parts d e) = again_cast bytes names line parts d e (declared_again bytes names d) (again bytes names e)
   again bytes names (sizeof_expr line e) = again_sizeof_expr bytes names line e (again bytes names e)
   again bytes names (sizeof_type line parts d) = again_sizeof_type bytes names line parts d (declared_again bytes names d)
   again bytes names (step line op e) = again_step bytes names line op e (again bytes names e)
   again bytes names (member line e n) = again_member bytes names line e n (again bytes names e)
+  again bytes names (arrow line e n) = λ n k own rest s w h l i. absurd w
+  again bytes names (subscript line a b) = λ n k own rest s w h l i. absurd w
   again bytes names (binary line op a b) = again_binary bytes names line op a b (again bytes names a) (again bytes names b)
   again bytes names (choice line a b c) = again_choice bytes names line a b c (again bytes names a) (again bytes names b) (again bytes names c)
   again bytes names (assign line op a b) = again_assign bytes names line op a b (again bytes names a) (again bytes names b)
@@ -368,6 +372,7 @@ mutual
   declared_again bytes names (unnamed ss) = again_unnamed bytes names ss (suffixes_again bytes names ss)
   declared_again bytes names (named line n ss) = again_named bytes names line n ss (suffixes_again bytes names ss)
   declared_again bytes names (inside line d ss) = again_inside bytes names line d ss (declared_again bytes names d) (suffixes_again bytes names ss)
+  declared_again bytes names (pointing line qs d) = λ n own rest s w deep e. absurd w
 
   suffixes_again : (bytes : List ℕ) (names : Scope) (ss : Suffixes) → SuffixesAgain bytes names ss
   suffixes_again bytes names no_suffix = suffixes_none bytes names

@@ -8,7 +8,7 @@ use Rattle.c_token.specs.declared.token.Kind.{Kind}
 use Rattle.c_token.specs.declared.token.Kind.TheVariants as kinds
 use Rattle.c_token.specs.declared.token.Mark.TheVariants as marks
 use Rattle.c_token.specs.Spelling.{text_of}
-use Rattle.c_tree.specs.Tree.{TypePart, Tree, Declared, Suffixes, unnamed, named, inside, no_suffix, bounded, unbounded, declared_depth, suffixes_depth}
+use Rattle.c_tree.specs.Tree.{TypePart, Tree, Declared, Suffixes, unnamed, named, inside, pointing, no_suffix, bounded, unbounded, declared_depth, suffixes_depth}
 use Rattle.c_tree.specs.Names.{Scope}
 use Rattle.c_tree.specs.Spelling.{SpellsTypeParts, SpellsDeclared, SpellsSuffixes, AreSpecifiers, IsWellDeclared, AreWellSuffixes, is_empty, has_name}
 use Rattle.c_parse_expr.specs.declared.declarator_start.DeclaratorStart.{DeclaratorStart}
@@ -210,6 +210,7 @@ marked_declared : (bytes : List ℕ) (d : Declared) (own rest : List Token) (t :
 marked_declared bytes (unnamed ss) own rest t s h is = marked_suffixes bytes ss own rest t s is
 marked_declared bytes (named line n ss) own rest t s h is = absurd cc
 marked_declared bytes (inside line d ss) own rest t s h is = record { token = s.token; mark = marks.LeftParenthesis; others = s.rest ++ (t ∷ rest); is = s.is.kind; whole = from_token own (t ∷ rest) s.rest s.token s.whole }
+marked_declared bytes (pointing line qs d) own rest t s h is = record { token = s.token; mark = marks.Star; others = s.rest ++ (t ∷ rest); is = s.is.kind; whole = from_token own (t ∷ rest) s.rest s.token s.whole }
 
 pub type_read : (bytes : List ℕ) (names : Scope) (n : ℕ) (parts : List TypePart) (d : Declared) → DeclaredAgain bytes names d → (left middle rest : List Token) (close : Token) → SpellsTypeParts bytes parts left → SpellsDeclared bytes d middle → close.kind ≡ kinds.Mark marks.RightParenthesis → AreSpecifiers names parts → has_name d ≡ false → IsWellDeclared names d → declared_depth d ≤ n → type_name_at bytes names (declared_at bytes names n) (left ++ (middle ++ (close ∷ rest))) ≡ Some ((parts, d), rest)
 unfolding type_name_at

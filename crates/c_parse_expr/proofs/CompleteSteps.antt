@@ -12,7 +12,7 @@ use Rattle.c_token.specs.declared.token.Mark.TheVariants as marks
 use Rattle.c_token.specs.Spelling.{text_of}
 use Rattle.c_tree.specs.declared.expr.UnaryOp.{UnaryOp}
 use Rattle.c_tree.specs.declared.expr.UnaryOp.TheVariants as unaries
-use Rattle.c_tree.specs.Tree.{Tree, constant, character, strings, name, parens, unary, cast, sizeof_expr, sizeof_type, step, member, binary, choice, assign, comma, call, depth}
+use Rattle.c_tree.specs.Tree.{Tree, constant, character, strings, name, parens, unary, address, dereference, cast, sizeof_expr, sizeof_type, step, member, arrow, subscript, binary, choice, assign, comma, call, depth}
 use Rattle.c_tree.specs.Names.{Scope, is_type}
 use Rattle.c_tree.specs.Tables.{level_of, unary_mark}
 use Rattle.c_tree.specs.Spelling.{Spells, IsWell}
@@ -128,11 +128,15 @@ first_token bytes names (strings line (part ∷ parts)) own s w = record { token
 first_token bytes names (name line n) own s w = record { token = s.token; others = []; lead = leads.Name; is = leads_so s.token.kind leads.Name s.is.kind; no_type = value_name bytes names s.token n s.is.kind s.is.text w; whole = s.whole }
 first_token bytes names (parens line e) own s w = record { token = s.token; others = s.rest; lead = leads.Group; is = leads_so s.token.kind leads.Group s.is.kind; no_type = no_start bytes names s.token leads.Group (kinds.Mark marks.LeftParenthesis) s.is.kind (λ b. refl); whole = s.whole }
 first_token bytes names (unary line op e) own s w = record { token = s.token; others = s.rest; lead = leads.Unary op; is = leads_so s.token.kind (leads.Unary op) s.is.kind; no_type = no_start bytes names s.token (leads.Unary op) (kinds.Mark (unary_mark op)) s.is.kind (λ b. refl); whole = s.whole }
+first_token bytes names (address line e) own s w = absurd w
+first_token bytes names (dereference line e) own s w = absurd w
 first_token bytes names (cast line parts d e) own s w = record { token = s.token; others = s.rest; lead = leads.Group; is = leads_so s.token.kind leads.Group s.is.kind; no_type = no_start bytes names s.token leads.Group (kinds.Mark marks.LeftParenthesis) s.is.kind (λ b. refl); whole = s.whole }
 first_token bytes names (sizeof_expr line e) own s w = record { token = s.token; others = s.rest; lead = leads.Sizeof; is = leads_so s.token.kind leads.Sizeof s.is.kind; no_type = no_start bytes names s.token leads.Sizeof (kinds.Keyword keywords.Sizeof) s.is.kind (λ b. refl); whole = s.whole }
 first_token bytes names (sizeof_type line parts d) own s w = record { token = s.token; others = s.rest; lead = leads.Sizeof; is = leads_so s.token.kind leads.Sizeof s.is.kind; no_type = no_start bytes names s.token leads.Sizeof (kinds.Keyword keywords.Sizeof) s.is.kind (λ b. refl); whole = s.whole }
 first_token bytes names (step line op e) own s w = first_of bytes names own s.left s.right s.whole (first_token bytes names e s.left s.first w.1)
 first_token bytes names (member line e n) own s w = first_of bytes names own s.left s.right s.whole (first_token bytes names e s.left s.first w.1)
+first_token bytes names (arrow line e n) own s w = absurd w
+first_token bytes names (subscript line a b) own s w = absurd w
 first_token bytes names (binary line op a b) own s w = first_of bytes names own s.left s.right s.whole (first_token bytes names a s.left s.first w.2)
 first_token bytes names (choice line a b c) own s w = first_of bytes names own s.left s.right s.whole (first_token bytes names a s.left s.first w.3)
 first_token bytes names (assign line op a b) own s w = first_of bytes names own s.left s.right s.whole (first_token bytes names a s.left s.first w.2)
@@ -186,11 +190,15 @@ no_type_behind bytes names (parens line e) own rest s w l =
     ∙ ap (λ (b : Bool). cond {A = Option (List Token)} b (Some (s.rest ++ rest)) None)
     (no_type_at bytes names s.rest rest (first_of bytes names s.rest s.behind.left s.behind.right s.behind.whole (first_token bytes names e s.behind.left s.behind.first w.1)))
 no_type_behind bytes names (unary line op e) own rest s w l = at_mark bytes names own rest s.rest s.token s.whole (unary_opens op s.token.kind s.is.kind)
+no_type_behind bytes names (address line e) own rest s w l = absurd w
+no_type_behind bytes names (dereference line e) own rest s w l = absurd w
 no_type_behind bytes names (cast line parts d e) own rest s w l = absurd (omega arith)
 no_type_behind bytes names (sizeof_expr line e) own rest s w l = at_mark bytes names own rest s.rest s.token s.whole (ap (is_mark marks.LeftParenthesis) s.is.kind)
 no_type_behind bytes names (sizeof_type line parts d) own rest s w l = at_mark bytes names own rest s.rest s.token s.whole (ap (is_mark marks.LeftParenthesis) s.is.kind)
 no_type_behind bytes names (step line op e) own rest s w l = along bytes names own s.left s.right rest s.whole (no_type_behind bytes names e s.left (s.right ++ rest) s.first w.1 (omega (arith, w.0)))
 no_type_behind bytes names (member line e n) own rest s w l = along bytes names own s.left s.right rest s.whole (no_type_behind bytes names e s.left (s.right ++ rest) s.first w.1 (omega (arith, w.0)))
+no_type_behind bytes names (arrow line e n) own rest s w l = absurd w
+no_type_behind bytes names (subscript line a b) own rest s w l = absurd w
 no_type_behind bytes names (binary line op a b) own rest s w l = absurd (let h = at_most_thirteen op in omega arith)
 no_type_behind bytes names (choice line a b c) own rest s w l = absurd (omega arith)
 no_type_behind bytes names (assign line op a b) own rest s w l = absurd (omega arith)

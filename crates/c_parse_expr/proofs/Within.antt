@@ -6,7 +6,7 @@ use Rattle.c_tree.specs.declared.expr.BinaryOp.{BinaryOp}
 use Rattle.c_tree.specs.declared.expr.BinaryOp.TheVariants as binaries
 use Rattle.c_tree.specs.declared.expr.UnaryOp.{UnaryOp}
 use Rattle.c_tree.specs.declared.expr.UnaryOp.TheVariants as unaries
-use Rattle.c_tree.specs.Tree.{Tree, Declared, unnamed, named, inside, no_suffix, bounded, unbounded, constant, character, strings, name, parens, unary, cast, sizeof_expr, sizeof_type, step, member, binary, choice, assign, comma, call, depth, declared_depth}
+use Rattle.c_tree.specs.Tree.{Tree, Declared, unnamed, named, inside, pointing, no_suffix, bounded, unbounded, constant, character, strings, name, parens, unary, address, dereference, cast, sizeof_expr, sizeof_type, step, member, arrow, subscript, binary, choice, assign, comma, call, depth, declared_depth}
 use Rattle.c_tree.specs.Names.{Scope}
 use Rattle.c_tree.specs.Tables.{strength_of, operand_level, level_of}
 use Rattle.c_tree.specs.Spelling.{IsWell, is_empty}
@@ -134,6 +134,8 @@ low names (unary line op e) s h q w =
     let f = behind_fifteen s q in
     let g = operand_high op in
     or_false (goes_on (operand_level op) (level_of e) s) (goes_on_inside e s) (goes_not (operand_level op) (level_of e) s (omega arith)) (low names e s (omega (arith, w.0)) q w.1)
+low names (address line e) s h q w = absurd w
+low names (dereference line e) s h q w = absurd w
 low names (cast line parts d e) s h q w =
     or_false (goes_on 14 (level_of e) s) (goes_on_inside e s) (goes_not 14 (level_of e) s h) (low names e s (omega (arith, w.3)) q w.4)
 low names (sizeof_expr line e) s h q w =
@@ -142,6 +144,8 @@ low names (sizeof_expr line e) s h q w =
 low names (sizeof_type line parts d) s h q w = refl
 low names (step line op e) s h q w = refl
 low names (member line e n) s h q w = refl
+low names (arrow line e n) s h q w = refl
+low names (subscript line a b) s h q w = refl
 low names (binary line op a b) s h q w =
     or_false (goes_on (strength_of op + 1) (level_of b) s) (goes_on_inside b s) (goes_not (strength_of op + 1) (level_of b) s (omega arith)) (low names b s (omega (arith, w.1)) q w.3)
 low names (choice line a b c) s h q w =
@@ -183,6 +187,8 @@ quiet names (unary line op e) s h w =
     let f = behind_fifteen s (let b = strength_below s in omega arith) in
     let g = operand_high op in
     or_false (goes_on (operand_level op) (level_of e) s) (goes_on_inside e s) (goes_not (operand_level op) (level_of e) s (omega arith)) (low names e s (omega (arith, w.0)) (omega arith) w.1)
+quiet names (address line e) s h w = absurd w
+quiet names (dereference line e) s h w = absurd w
 quiet names (cast line parts d e) s h w =
     let f = behind_fourteen s h in
     or_false (goes_on 14 (level_of e) s) (goes_on_inside e s) (goes_not 14 (level_of e) s f) (low names e s (omega (arith, w.3)) (omega arith) w.4)
@@ -192,6 +198,8 @@ quiet names (sizeof_expr line e) s h w =
 quiet names (sizeof_type line parts d) s h w = refl
 quiet names (step line op e) s h w = refl
 quiet names (member line e n) s h w = refl
+quiet names (arrow line e n) s h w = refl
+quiet names (subscript line a b) s h w = refl
 quiet names (binary line op a b) s h w =
     let f = strength_below s in
     let g = at_most_thirteen op in
@@ -215,11 +223,15 @@ has_depth (strings line parts) = omega arith
 has_depth (name line n) = omega arith
 has_depth (parens line e) = omega arith
 has_depth (unary line op e) = omega arith
+has_depth (address line e) = omega arith
+has_depth (dereference line e) = omega arith
 has_depth (cast line parts d e) = omega arith
 has_depth (sizeof_expr line e) = omega arith
 has_depth (sizeof_type line parts d) = omega arith
 has_depth (step line op e) = omega arith
 has_depth (member line e n) = omega arith
+has_depth (arrow line e n) = omega arith
+has_depth (subscript line a b) = omega arith
 has_depth (binary line op a b) = omega arith
 has_depth (choice line a b c) = omega arith
 has_depth (assign line op a b) = omega arith
@@ -233,6 +245,7 @@ deep_declared (unnamed (bounded line e rest)) f = omega arith
 deep_declared (unnamed (unbounded line rest)) f = omega arith
 deep_declared (named line n suffixes) e = omega arith
 deep_declared (inside line d suffixes) e = omega arith
+deep_declared (pointing line qs d) e = omega arith
 
 pub full_declared : (d : Declared) → 0 < declared_depth d → is_empty d ≡ false
 full_declared (unnamed no_suffix) h = absurd (omega arith)
@@ -240,3 +253,4 @@ full_declared (unnamed (bounded line e rest)) h = refl
 full_declared (unnamed (unbounded line rest)) h = refl
 full_declared (named line n suffixes) h = refl
 full_declared (inside line d suffixes) h = refl
+full_declared (pointing line qs d) h = refl

@@ -1,7 +1,7 @@
 -- Where a tree stands among tokens (C11 6.5).
 use Rattle.std.specs.Prelude.{◌≡◌, ◌≤◌, ℕ, ◌+◌, List, [], ◌∷◌, ◌++◌, Bool, false, ◌&&◌, ◌||◌, true, Option, None, IfSome}
 use Rattle.c_token.specs.declared.token.Token.{Token}
-use Rattle.c_tree.specs.Tree.{Tree, Declared, constant, character, strings, name, parens, unary, cast, sizeof_expr, sizeof_type, step, member, binary, choice, assign, comma, call, depth, declared_depth}
+use Rattle.c_tree.specs.Tree.{Tree, Declared, constant, character, strings, name, parens, unary, address, dereference, cast, sizeof_expr, sizeof_type, step, member, arrow, subscript, binary, choice, assign, comma, call, depth, declared_depth}
 use Rattle.c_tree.specs.Tables.{strength_of, operand_level, level_of}
 use Rattle.c_tree.specs.Names.{Scope}
 use Rattle.c_tree.specs.Spelling.{Spells, IsWell, SpellsDeclared, IsWellDeclared, is_empty, has_name}
@@ -33,11 +33,15 @@ goes_on_inside (strings line parts) s = is_another s
 goes_on_inside (name line n) s = false
 goes_on_inside (parens line e) s = false
 goes_on_inside (unary line op e) s = goes_on (operand_level op) (level_of e) s || goes_on_inside e s
+goes_on_inside (address line e) s = goes_on 14 (level_of e) s || goes_on_inside e s
+goes_on_inside (dereference line e) s = goes_on 14 (level_of e) s || goes_on_inside e s
 goes_on_inside (cast line parts d e) s = goes_on 14 (level_of e) s || goes_on_inside e s
 goes_on_inside (sizeof_expr line e) s = goes_on 15 (level_of e) s || goes_on_inside e s
 goes_on_inside (sizeof_type line parts d) s = false
 goes_on_inside (step line op e) s = false
 goes_on_inside (member line e n) s = false
+goes_on_inside (arrow line e n) s = false
+goes_on_inside (subscript line a b) s = false
 goes_on_inside (binary line op a b) s = goes_on (strength_of op + 1) (level_of b) s || goes_on_inside b s
 goes_on_inside (choice line a b c) s = goes_on 3 (level_of c) s || goes_on_inside c s
 goes_on_inside (assign line op a b) s = goes_on 2 (level_of b) s || goes_on_inside b s

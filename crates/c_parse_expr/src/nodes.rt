@@ -600,6 +600,7 @@ pub fn nested<'a>(
     let height = larger(height, suffixes.height) + 1;
     Ok(FoundDeclarator {
         declarator: Declarator {
+            pointers: Vec::new(alloc),
             core: DeclaratorCore::Inside { line, inner },
             suffixes: suffixes.suffixes,
         },

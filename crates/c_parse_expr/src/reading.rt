@@ -182,6 +182,7 @@ fn nothing(alloc: Global, tokens: &[Token]) -> FoundDeclarator<'_>
 {
     FoundDeclarator {
         declarator: Declarator {
+            pointers: Vec::new(alloc),
             core: DeclaratorCore::Absent,
             suffixes: Vec::new(alloc),
         },
@@ -258,6 +259,7 @@ fn unnamed<'a>(
     let height = unnamed_height(&found.suffixes, found.height);
     Ok(FoundDeclarator {
         declarator: Declarator {
+            pointers: Vec::new(frame.alloc),
             core: DeclaratorCore::Absent,
             suffixes: found.suffixes,
         },
@@ -291,6 +293,7 @@ fn declarator_behind<'a>(
             let found = array_suffixes(frame, names, rest)?;
             Ok(FoundDeclarator {
                 declarator: Declarator {
+                    pointers: Vec::new(frame.alloc),
                     core: DeclaratorCore::Named {
                         line: token.line,
                         name,

@@ -164,13 +164,13 @@ declarators_again bytes (declarator x i ds) types n (suc m) names first own rest
     let two = c.spelled in
     let three = two.second in
     let some = named_full x w.0 in
-    let one = opens_length (IsNot marks.Semicolon) two.left (full_opens_not bytes marks.Semicolon x two.left refl refl some two.first) in
+    let one = opens_length (IsNot marks.Semicolon) two.left (full_opens_not bytes marks.Semicolon x two.left refl refl refl some two.first) in
     let both = ap (λ (xs : List Token). length xs) two.whole ∙ length-append two.left two.right in
     let back = ap (λ (xs : List Token). length xs) three.whole ∙ length-append three.left three.right in
     let short = c.short in
     let e = apart c.inner two.left two.right rest two.whole ∙ ap (λ (xs : List Token). two.left ++ xs) (apart two.right three.left three.right rest three.whole) in
     run_goes (declarators_list bytes types n) m (names, first) (own ++ rest) (three.right ++ rest) rest (x, i) ds
-    (ended_fails marks.Semicolon none_declared first A own rest refl (λ xs a. opens_longer (IsNot marks.Semicolon) xs a.left a.right a.whole (full_opens_not bytes marks.Semicolon x a.left refl refl some a.first)) sep)
+    (ended_fails marks.Semicolon none_declared first A own rest refl (λ xs a. opens_longer (IsNot marks.Semicolon) xs a.left a.right a.whole (full_opens_not bytes marks.Semicolon x a.left refl refl refl some a.first)) sep)
     (bind_gives (comma_at first (own ++ rest)) (λ xs. declarator_at bytes names types n xs) (c.inner ++ rest) (Some ((x, i), three.right ++ rest)) c.read
     (ap (declarator_at bytes names types n) e
     ∙ declarator_read bytes names types n x i two.left three.left (three.right ++ rest) (others_end bytes ds three.right rest three.second) two.first three.first w.0 w.1 w.2 (omega arith) (omega arith)))
@@ -209,13 +209,13 @@ declaration_starts bytes names ps ds own rest s w =
 
 -- no label stands where a declaration does
 no_colon_full : (k : Kind) → BeginsFull k → is_mark marks.Colon k ≡ false
-no_colon_full k e = full_not marks.Colon k refl refl e
+no_colon_full k e = full_not marks.Colon k refl refl refl e
 
 declarators_no_colon : (bytes : List ℕ) (names : Scope) (types : Bool) (ds : Declarators) (own rest : List Token) → SpellsDeclarators bytes ds own → AreWellDeclarators names types ds → token_at (is_mark marks.Colon) (own ++ rest) ≡ None
 declarators_no_colon bytes names types none_declared own rest s w =
     ap (token_at (is_mark marks.Colon)) (from_token own rest [] s.token s.whole) ∙ token_fails (is_mark marks.Colon) s.token rest (passes_at (is_mark marks.Colon) s.token.kind (kinds.Mark marks.Semicolon) false s.is refl)
 declarators_no_colon bytes names types (declarator d i ds) own rest s w =
-    opens_not marks.Colon own rest (opens_longer (IsNot marks.Colon) own s.left s.right s.whole (full_opens_not bytes marks.Colon d s.left refl refl (named_full d w.0) s.first))
+    opens_not marks.Colon own rest (opens_longer (IsNot marks.Colon) own s.left s.right s.whole (full_opens_not bytes marks.Colon d s.left refl refl refl (named_full d w.0) s.first))
 
 parts_no_colon : (bytes : List ℕ) (ps : Parts) (own rest : List Token) → SpellsParts bytes ps own → token_at (is_mark marks.Colon) rest ≡ None → token_at (is_mark marks.Colon) (own ++ rest) ≡ None
 parts_no_colon bytes no_part own rest s e = ap (λ (xs : List Token). token_at (is_mark marks.Colon) (xs ++ rest)) s ∙ e

@@ -23,7 +23,7 @@ use Rattle.c_tree.specs.Tree.{TypePart, qualified, word, tagged, typedef_name, T
 use Rattle.c_tree.specs.Tables.{level_of, qualifier_keyword, word_keyword, tag_keyword, storage_keyword, function_keyword, record_keyword}
 use Rattle.c_tree.specs.Names.{Scope, is_type}
 use Rattle.c_tree.specs.Spelling.{Single, Then, IsMark, Spells, IsWell}
-use Rattle.c_tree.specs.Declarations.{Enumerated, Part, type_part, storage, function, structure, enumeration, Parts, no_part, part, Members, no_member, members, Full, full_unnamed, full_named, full_inside, Fulls, no_full, full, FullSuffixes, full_end, full_bounded, full_open, full_empty, full_void, full_parameters, Parameters, no_parameter, parameter, value_depth, enumerators_depth, part_depth, parts_depth, members_depth, full_depth, fulls_depth, full_suffixes_depth, parameters_depth, full_has_name, with_part, with_parts, with_named, have_typedef, specifies, specify}
+use Rattle.c_tree.specs.Declarations.{Enumerated, Part, type_part, storage, function, structure, enumeration, Parts, no_part, part, Members, no_member, members, Full, full_unnamed, full_named, full_inside, Fulls, no_full, full, FullSuffixes, full_end, full_bounded, full_open, full_empty, full_void, full_parameters, Parameters, no_parameter, parameter, value_depth, enumerators_depth, part_depth, parts_depth, members_depth, full_depth, fulls_depth, full_suffixes_depth, parameters_depth, full_has_name, with_part, with_parts, with_named, have_typedef, specifies, specify, full_pointing}
 use Rattle.c_tree.specs.Files.{SpellsValue, SpellsEnumerator, SpellsOtherEnumerators, SpellsEnumerators, SpellsOtherMembers, SpellsMembers, SpellsTag, SpellsPart, SpellsParts, SpellsMemberDeclarations, SpellsFull, SpellsFullSuffixes, SpellsParameters, SpellsOtherParameters, IsWellValue, AreWellEnumerators, FrontIsNoType, AreWellMembers, FrontIsNoTypeOfMembers, is_of_member, are_of_member, IsWellPart, AreWellParts, AreWellMemberDeclarations, OpensNoType, full_is_empty, is_void_part, are_void, is_void_alone, IsWellFull, AreWellFullSuffixes, AreWellParameters}
 use Rattle.c_parse_expr.specs.Tables.{suffix_of}
 use Rattle.c_parse_expr.specs.inner.Many.{◌>>=◌}
@@ -145,12 +145,12 @@ some_fulls_again bytes x ds again others n (suc m) names first own rest s w d h 
     let c = comma_gives first A own rest sep in
     let two = c.spelled in
     let some = named_full x w.0 in
-    let o = full_opens_not bytes marks.Semicolon x two.left refl refl some two.first in
+    let o = full_opens_not bytes marks.Semicolon x two.left refl refl refl some two.first in
     let one = opens_length (IsNot marks.Semicolon) two.left o in
     let both = ap (λ (xs : List Token). length xs) two.whole ∙ length-append two.left two.right in
     let short = c.short in
     run_goes (fulls_list (full_at bytes n false)) m (names, first) (own ++ rest) (two.right ++ rest) rest x ds
-    (ended_fails marks.Semicolon no_full first A own rest refl (λ xs a. opens_longer (IsNot marks.Semicolon) xs a.left a.right a.whole (full_opens_not bytes marks.Semicolon x a.left refl refl some a.first)) sep)
+    (ended_fails marks.Semicolon no_full first A own rest refl (λ xs a. opens_longer (IsNot marks.Semicolon) xs a.left a.right a.whole (full_opens_not bytes marks.Semicolon x a.left refl refl refl some a.first)) sep)
     (bind_gives (comma_at first (own ++ rest)) (λ xs. full_at bytes n false names xs) (c.inner ++ rest) (Some (x, two.right ++ rest)) c.read
     (ap (full_at bytes n false names) (apart c.inner two.left two.right rest two.whole)
     ∙ again n false names two.left (two.right ++ rest) two.first w.1 (λ _. w.0) (omega arith) (enders_follow (two.right ++ rest) (other_members_end bytes ds two.right rest two.second))))
@@ -724,7 +724,7 @@ others_no_close bytes parts d (parameter qs c ps) variadic own rest e f g s =
 
 full_no_close : (bytes : List ℕ) (parts : Parts) (d : Full) (ps : Parameters) (variadic b : Bool) (own left right rest : List Token) → full_is_empty d ≡ b → is_void_alone (parameter parts d ps) variadic ≡ false → are_void parts ≡ true → own ≡ left ++ right → SpellsFull bytes d left → SpellsOtherParameters bytes ps variadic right → token_at (is_mark marks.RightParenthesis) (own ++ rest) ≡ None
 full_no_close bytes parts d ps variadic false own left right rest g e f is s r =
-    opens_not marks.RightParenthesis own rest (opens_longer (IsNot marks.RightParenthesis) own left right is (full_opens_not bytes marks.RightParenthesis d left refl refl g s))
+    opens_not marks.RightParenthesis own rest (opens_longer (IsNot marks.RightParenthesis) own left right is (full_opens_not bytes marks.RightParenthesis d left refl refl refl g s))
 full_no_close bytes parts d ps variadic true own left right rest g e f is s r =
     ap (λ (xs : List Token). token_at (is_mark marks.RightParenthesis) (xs ++ rest)) (is ∙ ap (λ (xs : List Token). xs ++ right) (nothing_spelled bytes d left g s))
     ∙ others_no_close bytes parts d ps variadic right rest e f g r
@@ -953,7 +953,7 @@ no_takes_here : (bytes : List ℕ) (inner : Bool) (names : Scope) (d : Full) (ow
 no_takes_here bytes false names d own rest e f s = refl
 no_takes_here bytes true names d own rest e f s =
     let q = full_quiet false bytes names false d own rest s e f in
-    ap (λ (o : Read Token). is_there o || is_there (start_at false bytes (names, false) (own ++ rest))) (opens_not marks.RightParenthesis own rest (full_opens_not bytes marks.RightParenthesis d own refl refl e s))
+    ap (λ (o : Read Token). is_there o || is_there (start_at false bytes (names, false) (own ++ rest))) (opens_not marks.RightParenthesis own rest (full_opens_not bytes marks.RightParenthesis d own refl refl refl e s))
     ∙ ap (λ (o : Option (Start × Token × List Token)). is_there o) q.no_start
 
 inside_declarator_start : (inner given : Bool) (bytes : List ℕ) (names : Scope) (ts others : List Token) (t : Token) → ts ≡ t ∷ others → t.kind ≡ kinds.Mark marks.LeftParenthesis → (inner && takes bytes names others) ≡ false → declarator_start_at inner bytes names ts ≡ Some declarator_starts.Inside
@@ -1015,6 +1015,7 @@ mutual
   full_again bytes (full_unnamed ss) = unnamed_again bytes ss (suffixes_again bytes ss) (suffixes_declarator_start bytes ss)
   full_again bytes (full_named line text ss) = named_again bytes line text ss (suffixes_again bytes ss)
   full_again bytes (full_inside line d ss) = inside_again bytes line d ss (full_again bytes d) (suffixes_again bytes ss)
+  full_again bytes (full_pointing line qs d) = λ n inner names own rest s w h deep o. absurd w
 
   suffixes_again : (bytes : List ℕ) (ss : FullSuffixes) → SuffixesAgain bytes ss
   suffixes_again bytes full_end = no_suffix_again bytes

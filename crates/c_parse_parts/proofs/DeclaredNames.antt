@@ -8,7 +8,8 @@ use Rattle.c_tree.specs.declared.declaration.Specifier.{Specifier}
 use Rattle.c_tree.specs.declared.declaration.MemberDeclaration.{MemberDeclaration}
 use Rattle.c_tree.specs.declared.declaration.Parameter.{Parameter}
 use Rattle.c_tree.specs.declared.declaration.DeclaratorSuffix.{DeclaratorSuffix, Bounded, Open, Empty, Void, Parameters'}
-use Rattle.c_tree.specs.Declarations.{FullSuffixes, full_end, view_enumerator, view_part, parts_of, members_of, view_full, view_full_suffix, full_suffixes_of, parameters_of, is_typedef, have_typedef, or_suffixes, begins_function, with_enumerators, with_part, with_parts, with_members, with_named, with_parameters, with_parameters_of}
+use Rattle.c_tree.specs.declared.expr.PointerMark.{PointerMark}
+use Rattle.c_tree.specs.Declarations.{FullSuffixes, full_end, view_enumerator, view_part, parts_of, members_of, view_full, view_full_suffix, full_suffixes_of, parameters_of, is_typedef, have_typedef, or_suffixes, begin_function, Full, full_behind, is_function_within, name_of, full_has_name, nearest, with_enumerators, with_part, with_parts, with_members, with_named, with_parameters, with_parameters_of}
 use Rattle.c_parse_parts.proofs.SoundParts.{or_nothing, or_three}
 
 enumerators_after : (names : Scope) (es : List Enumerator) (e : Enumerator) → with_enumerators names (map view_enumerator (es ++ e ∷ [])) ≡ ((view_enumerator e).name, false) ∷ with_enumerators names (map view_enumerator es)
@@ -68,12 +69,12 @@ parameters_first names (Empty line) rest = refl
 parameters_first names (Void line) rest = refl
 parameters_first names (Parameters' line shape ps variadic) rest = refl
 
-pub function_first : (s : DeclaratorSuffix) (rest : FullSuffixes) → begins_function (view_full_suffix s full_end) ≡ begins_function (view_full_suffix s rest)
-function_first (Bounded line e) rest = refl
-function_first (Open line) rest = refl
-function_first (Empty line) rest = refl
-function_first (Void line) rest = refl
-function_first (Parameters' line shape ps variadic) rest = refl
+pub function_first : (s : DeclaratorSuffix) (rest : FullSuffixes) (outer : Bool) → begin_function (view_full_suffix s full_end) false ≡ begin_function (view_full_suffix s rest) outer
+function_first (Bounded line e) rest outer = refl
+function_first (Open line) rest outer = refl
+function_first (Empty line) rest outer = refl
+function_first (Void line) rest outer = refl
+function_first (Parameters' line shape ps variadic) rest outer = refl
 
 first_or : (s : DeclaratorSuffix) (rest outer : FullSuffixes) → view_full_suffix s rest ≡ or_suffixes (view_full_suffix s rest) outer
 first_or (Bounded line e) rest outer = refl
@@ -90,6 +91,32 @@ pub first_declares : (names : Scope) (ss : List DeclaratorSuffix) (s : Declarato
 first_declares names [] s h = absurd (omega arith)
 first_declares names (x ∷ xs) s h = parameters_first names x (full_suffixes_of xs)
 
-pub first_function : (ss : List DeclaratorSuffix) (s : DeclaratorSuffix) → 1 ≤ length ss → begins_function (view_full_suffix (get_or ss 0 s) full_end) ≡ begins_function (full_suffixes_of ss)
-first_function [] s h = absurd (omega arith)
-first_function (x ∷ xs) s h = function_first x (full_suffixes_of xs)
+pub first_function : (ss : List DeclaratorSuffix) (s : DeclaratorSuffix) (outer : Bool) → 1 ≤ length ss → begin_function (view_full_suffix (get_or ss 0 s) full_end) false ≡ begin_function (full_suffixes_of ss) outer
+first_function [] s outer h = absurd (omega arith)
+first_function (x ∷ xs) s outer h = function_first x (full_suffixes_of xs) outer
+
+-- pointers declare nothing
+pub behind_name : (ps : List PointerMark) (d : Full) → name_of (full_behind ps d) ≡ name_of d
+behind_name [] d = refl
+behind_name (p ∷ ps) d = behind_name ps d
+
+pub behind_has_name : (ps : List PointerMark) (d : Full) → full_has_name (full_behind ps d) ≡ full_has_name d
+behind_has_name [] d = refl
+behind_has_name (p ∷ ps) d = behind_has_name ps d
+
+pub behind_nearest : (ps : List PointerMark) (d : Full) → nearest (full_behind ps d) ≡ nearest d
+behind_nearest [] d = refl
+behind_nearest (p ∷ ps) d = behind_nearest ps d
+
+-- behind a pointer stands no function
+no_function : (ps : List PointerMark) (d : Full) → is_function_within (full_behind ps d) false ≡ is_function_within d false
+no_function [] d = refl
+no_function (p ∷ ps) d = no_function ps d
+
+pub some_pointers : (ps : List PointerMark) (d : Full) (outer : Bool) → 1 ≤ length ps → is_function_within (full_behind ps d) outer ≡ is_function_within d false
+some_pointers [] d outer h = absurd (omega arith)
+some_pointers (p ∷ ps) d outer h = no_function ps d
+
+pub no_pointers : (ps : List PointerMark) (d : Full) (outer : Bool) → length ps ≡ 0 → is_function_within (full_behind ps d) outer ≡ is_function_within d outer
+no_pointers [] d outer h = refl
+no_pointers (p ∷ ps) d outer h = absurd (omega arith)

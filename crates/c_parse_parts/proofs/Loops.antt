@@ -21,7 +21,7 @@ use Rattle.c_tree.specs.declared.declaration.InitDeclarator.{InitDeclarator}
 use Rattle.c_tree.specs.declared.declaration.MemberDeclaration.{MemberDeclaration}
 use Rattle.c_tree.specs.Tree.{Tree, view_name, view}
 use Rattle.c_tree.specs.Names.{Scope}
-use Rattle.c_tree.specs.Declarations.{Full, full, full_unnamed, full_named, full_inside, Fulls, no_full, FullSuffixes, full_end, Parameters, no_parameter, parameter, view_full, fulls_of, view_full_suffix, full_suffixes_of, parameters_of, full_has_name, with_named, with_parameters, with_parameters_of, full_bounded, full_open, full_empty, full_void, full_parameters, Enumerated, Part, Parts, no_part, part, Members, no_member, members, type_part, storage, function, structure, enumeration, Initial, initial, braces, Initials, no_initial, initials, Declarators, none_declared, declarator, name_of, view_initializer, initials_of, view_init_declarator, declarators_of, with_declarators, with_declaration, specifies, view_enumerator, view_part, parts_of, members_of, with_enumerators, with_part, with_parts, with_members, have_typedef, is_typedef}
+use Rattle.c_tree.specs.Declarations.{Full, full, full_unnamed, full_named, full_inside, Fulls, no_full, FullSuffixes, full_end, Parameters, no_parameter, parameter, view_full, fulls_of, view_full_suffix, full_suffixes_of, parameters_of, full_has_name, with_named, with_parameters, with_parameters_of, full_bounded, full_open, full_empty, full_void, full_parameters, Enumerated, Part, Parts, no_part, part, Members, no_member, members, type_part, storage, function, structure, enumeration, Initial, initial, braces, Initials, no_initial, initials, Declarators, none_declared, declarator, name_of, view_initializer, initials_of, view_init_declarator, declarators_of, with_declarators, with_declaration, specifies, view_enumerator, view_part, parts_of, members_of, with_enumerators, with_part, with_parts, with_members, have_typedef, is_typedef, full_behind}
 use Rattle.c_tree.proofs.DeclarationViews.{view_record, view_braces, view_unnamed, view_named, view_inside, view_takes}
 use Rattle.c_parse_expr.specs.inner.Many.{◌>>=◌}
 use Rattle.c_parse_expr.specs.Reading.{is_mark}
@@ -34,6 +34,7 @@ use Rattle.c_parse_parts.specs.inner.Reading.{FullReader, OneSuffix, one_takes, 
 use Rattle.c_parse_parts.specs.inner.Pieces.{suffix_of, parameter_of}
 use Rattle.c_parse_parts.proofs.Lists.{bind_gives, bind_none, placed_all, front_none, Left, closes}
 use Rattle.c_parse_parts.proofs.SoundParts.{or_nothing, or_three}
+use Rattle.c_tree.specs.declared.expr.PointerMark.{PointerMark}
 
 -- what ends a list
 pub ended_some : {T : Type 0} (mark : Mark) (t : T) (ts : List Token) (x : Token × List Token) → Some x ≡ token_at (is_mark mark) ts → ended_at mark t ts ≡ Some (t, x.1)
@@ -161,30 +162,34 @@ given_made bytes n body sub names line ts rest ps variadic e f =
     ∙ ap (λ (o : Read (Parameters × Bool)). o >>= λ ps. Some (one_takes line ps.0.0 ps.0.1, ps.1)) f ∙ ap (λ (x : OneSuffix). Some (x, rest)) (sym (suffix_made line ps variadic))
 
 -- declarators
-pub inside_made : (bytes : List ℕ) (n : ℕ) (body : Body) (sub : FullReader) (inner : Bool) (names now : Scope) (line : ℕ) (ts others rest : List Token) (x : Token × List Token) (box : Box FullDeclarator Global) (d : FullDeclarator) (ss : Vec DeclaratorSuffix Global) → sub inner names ts ≡ Some (view_full d, others) → Some x ≡ token_at (is_mark marks.RightParenthesis) others → now ≡ names → suffixes_at bytes n body sub now x.1 ≡ Some (full_suffixes_of ss.items, rest) → box.value ≡ d → inside_at bytes n body sub inner names line ts ≡ Some (view_full (Inside line box ss), rest)
+pub inside_made : (bytes : List ℕ) (n : ℕ) (body : Body) (sub : FullReader) (inner : Bool) (names now : Scope) (line : ℕ) (ts others rest : List Token) (x : Token × List Token) (box : Box FullDeclarator Global) (d : FullDeclarator) (pointers : Vec PointerMark Global) (ss : Vec DeclaratorSuffix Global) → pointers.items ≡ [] → sub inner names ts ≡ Some (view_full d, others) → Some x ≡ token_at (is_mark marks.RightParenthesis) others → now ≡ names → suffixes_at bytes n body sub now x.1 ≡ Some (full_suffixes_of ss.items, rest) → box.value ≡ d → inside_at bytes n body sub inner names line ts ≡ Some (view_full (Inside pointers line box ss), rest)
 unfolding inside_at
-inside_made bytes n body sub inner names now line ts others rest x box d ss e f same g h =
+inside_made bytes n body sub inner names now line ts others rest x box d pointers ss none e f same g h =
     ap (λ (o : Read Full). o >>= λ d. token_at (is_mark marks.RightParenthesis) d.1 >>= λ x. suffixes_at bytes n body sub names x.1 >>= λ ss. Some (full_inside line d.0 ss.0, ss.1)) e
     ∙ ap (λ (o : Read Token). o >>= λ x. suffixes_at bytes n body sub names x.1 >>= λ ss. Some (full_inside line (view_full d) ss.0, ss.1)) (sym f)
     ∙ ap (λ (o : Read FullSuffixes). o >>= λ ss. Some (full_inside line (view_full d) ss.0, ss.1)) (ap (λ (s : Scope). suffixes_at bytes n body sub s x.1) (sym same) ∙ g)
     ∙ ap (λ (y : FullDeclarator). Some (full_inside line (view_full y) (full_suffixes_of ss.items), rest)) (sym h)
-    ∙ ap (λ (y : Full). Some (y, rest)) (sym (view_inside line box ss))
+    ∙ ap (λ (ps : List PointerMark). Some (full_behind ps (full_inside line (view_full box.value) (full_suffixes_of ss.items)), rest)) (sym none)
+    ∙ ap (λ (y : Full). Some (y, rest)) (sym (view_inside pointers line box ss))
 
-pub unnamed_made : (bytes : List ℕ) (n : ℕ) (body : Body) (sub : FullReader) (inner : Bool) (names : Scope) (ts rest : List Token) (ss : Vec DeclaratorSuffix Global) → suffixes_at bytes n body sub names ts ≡ Some (full_suffixes_of ss.items, rest) → full_from bytes n body sub inner names declarator_starts.Suffixes ts ≡ Some (view_full (Unnamed ss), rest)
+pub unnamed_made : (bytes : List ℕ) (n : ℕ) (body : Body) (sub : FullReader) (inner : Bool) (names : Scope) (ts rest : List Token) (pointers : Vec PointerMark Global) (ss : Vec DeclaratorSuffix Global) → pointers.items ≡ [] → suffixes_at bytes n body sub names ts ≡ Some (full_suffixes_of ss.items, rest) → full_from bytes n body sub inner names declarator_starts.Suffixes ts ≡ Some (view_full (Unnamed pointers ss), rest)
 unfolding full_from
-unnamed_made bytes n body sub inner names ts rest ss e =
-    ap (λ (o : Read FullSuffixes). o >>= λ ss. Some (full_unnamed ss.0, ss.1)) e ∙ ap (λ (y : Full). Some (y, rest)) (sym (view_unnamed ss))
+unnamed_made bytes n body sub inner names ts rest pointers ss none e =
+    ap (λ (o : Read FullSuffixes). o >>= λ ss. Some (full_unnamed ss.0, ss.1)) e
+    ∙ ap (λ (ps : List PointerMark). Some (full_behind ps (full_unnamed (full_suffixes_of ss.items)), rest)) (sym none) ∙ ap (λ (y : Full). Some (y, rest)) (sym (view_unnamed pointers ss))
 
-pub named_made : (bytes : List ℕ) (n : ℕ) (body : Body) (sub : FullReader) (inner : Bool) (names : Scope) (ts others rest : List Token) (t : Token) (name : Name) (ss : Vec DeclaratorSuffix Global) → ts ≡ t ∷ others → view_name name ≡ text_of bytes t → suffixes_at bytes n body sub names others ≡ Some (full_suffixes_of ss.items, rest) → full_from bytes n body sub inner names declarator_starts.Name ts ≡ Some (view_full (Named t.line name ss), rest)
+pub named_made : (bytes : List ℕ) (n : ℕ) (body : Body) (sub : FullReader) (inner : Bool) (names : Scope) (ts others rest : List Token) (t : Token) (name : Name) (pointers : Vec PointerMark Global) (ss : Vec DeclaratorSuffix Global) → pointers.items ≡ [] → ts ≡ t ∷ others → view_name name ≡ text_of bytes t → suffixes_at bytes n body sub names others ≡ Some (full_suffixes_of ss.items, rest) → full_from bytes n body sub inner names declarator_starts.Name ts ≡ Some (view_full (Named pointers t.line name ss), rest)
 unfolding full_from
-named_made bytes n body sub inner names ts others rest t name ss e f g =
+named_made bytes n body sub inner names ts others rest t name pointers ss none e f g =
     ap (full_from bytes n body sub inner names declarator_starts.Name) e
     ∙ ap (λ (o : Read FullSuffixes). o >>= λ ss. Some (full_named t.line (text_of bytes t) ss.0, ss.1)) g
     ∙ ap (λ (x : List ℕ). Some (full_named t.line x (full_suffixes_of ss.items), rest)) (sym f)
-    ∙ ap (λ (y : Full). Some (y, rest)) (sym (view_named t.line name ss))
+    ∙ ap (λ (ps : List PointerMark). Some (full_behind ps (full_named t.line (view_name name) (full_suffixes_of ss.items)), rest)) (sym none)
+    ∙ ap (λ (y : Full). Some (y, rest)) (sym (view_named pointers t.line name ss))
 
-pub empty_made : (ss : Vec DeclaratorSuffix Global) → ss.items ≡ [] → view_full (Unnamed ss) ≡ full_unnamed full_end
-empty_made ss e = view_unnamed ss ∙ ap (λ (xs : List DeclaratorSuffix). full_unnamed (full_suffixes_of xs)) e
+pub empty_made : (pointers : Vec PointerMark Global) (ss : Vec DeclaratorSuffix Global) → pointers.items ≡ [] → ss.items ≡ [] → view_full (Unnamed pointers ss) ≡ full_unnamed full_end
+empty_made pointers ss none e =
+    view_unnamed pointers ss ∙ ap (λ (ps : List PointerMark). full_behind ps (full_unnamed (full_suffixes_of ss.items))) none ∙ ap (λ (xs : List DeclaratorSuffix). full_unnamed (full_suffixes_of xs)) e
 
 abbrev pub pair : Scope → Bool → State
 pair names b = (names, b)

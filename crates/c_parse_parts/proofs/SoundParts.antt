@@ -18,7 +18,7 @@ use Rattle.c_tree.specs.Tree.{qualified, word, tagged, typedef_name, Tree}
 use Rattle.c_tree.specs.Tables.{tag_keyword, record_keyword}
 use Rattle.c_tree.specs.Names.{Scope, is_type}
 use Rattle.c_tree.specs.Spelling.{Single, Behind, Then, IsMark}
-use Rattle.c_tree.specs.Declarations.{Enumerated, Part, type_part, storage, function, structure, enumeration, Parts, no_part, part, Members, no_member, members, Full, full_unnamed, full_named, full_inside, Fulls, no_full, full, FullSuffixes, full_end, full_bounded, full_open, full_empty, full_void, full_parameters, Parameters, no_parameter, parameter, value_depth, enumerators_depth, part_depth, parts_depth, members_depth, full_depth, fulls_depth, full_suffixes_depth, parameters_depth, full_has_name, with_part, with_parts, with_named, have_typedef, specifies, specify}
+use Rattle.c_tree.specs.Declarations.{Enumerated, Part, type_part, storage, function, structure, enumeration, Parts, no_part, part, Members, no_member, members, Full, full_unnamed, full_named, full_inside, Fulls, no_full, full, FullSuffixes, full_end, full_bounded, full_open, full_empty, full_void, full_parameters, Parameters, no_parameter, parameter, value_depth, enumerators_depth, part_depth, parts_depth, members_depth, full_depth, fulls_depth, full_suffixes_depth, parameters_depth, full_has_name, with_part, with_parts, with_named, have_typedef, specifies, specify, full_pointing}
 use Rattle.c_tree.specs.Files.{SpellsValue, SpellsEnumerator, SpellsOtherEnumerators, SpellsEnumerators, SpellsOtherMembers, SpellsMembers, SpellsTag, SpellsPart, SpellsParts, SpellsMemberDeclarations, SpellsFull, SpellsFullSuffixes, SpellsParameters, SpellsOtherParameters, IsWellValue, AreWellEnumerators, FrontIsNoType, AreWellMembers, FrontIsNoTypeOfMembers, is_of_member, are_of_member, IsWellPart, AreWellParts, AreWellMemberDeclarations, OpensNoType, full_is_empty, is_void, is_void_part, are_void, is_void_alone, IsWellFull, AreWellFullSuffixes, AreWellParameters}
 use Rattle.c_parse_expr.specs.inner.Many.{◌>>=◌}
 use Rattle.c_parse_expr.specs.Reading.{is_mark}
@@ -320,6 +320,7 @@ front_no_type inner bytes names before (full_named line text ss) ts left more e 
     λ not. sym (ap (is_type names) s.is.text)
     ∙ no_name inner bytes (names, before) ts (s.rest ++ more) s.token (f ∙ ap (λ (xs : List Token). xs ++ more) s.whole) s.is.kind e not
 front_no_type inner bytes names before (full_inside line d ss) ts left more e f s = tt
+front_no_type inner bytes names before (full_pointing line qs d) ts left more e f s = tt
 
 -- what is known of a declarator, of a parameter or not
 abbrev pub FullWell : Bool → Scope → Full → Type 0
@@ -576,6 +577,7 @@ nothing_spelled bytes (full_unnamed (full_void line ss)) own e s = absurd cc
 nothing_spelled bytes (full_unnamed (full_parameters line ps v ss)) own e s = absurd cc
 nothing_spelled bytes (full_named line text ss) own e s = absurd cc
 nothing_spelled bytes (full_inside line d ss) own e s = absurd cc
+nothing_spelled bytes (full_pointing line qs d) own e s = absurd cc
 
 -- one parameter that is `void`
 void_spelled : (bytes : List ℕ) (ps : Parameters) (variadic : Bool) (ts own rest : List Token) → is_void_alone ps variadic ≡ true → SpellsParameters bytes ps variadic own → ts ≡ own ++ rest → void_at ts ≡ Some rest
@@ -855,6 +857,7 @@ pub named_full : (d : Full) → full_has_name d ≡ true → full_is_empty d ≡
 named_full (full_unnamed ss) e = absurd cc
 named_full (full_named line text ss) e = refl
 named_full (full_inside line d ss) e = refl
+named_full (full_pointing line qs d) e = refl
 
 true_and_false : {P : Type 0} (b : Bool) → b ≡ true → b ≡ false → P
 true_and_false true e f = absurd cc
@@ -871,6 +874,7 @@ some_full bytes names (full_unnamed (full_void line ss)) ts own mid y s e f g = 
 some_full bytes names (full_unnamed (full_parameters line ps v ss)) ts own mid y s e f g = refl
 some_full bytes names (full_named line text ss) ts own mid y s e f g = refl
 some_full bytes names (full_inside line d ss) ts own mid y s e f g = refl
+some_full bytes names (full_pointing line qs d) ts own mid y s e f g = refl
 
 inside_full : (bytes : List ℕ) (inner : Bool) (names : Scope) (d : Full) (ts own mid : List Token) (y : Token × List Token) → SpellsFull bytes d own → (inner ≡ false → full_has_name d ≡ true) → ts ≡ own ++ mid → token_at (is_mark marks.RightParenthesis) mid ≡ Some y → (inner ≡ true → takes bytes names ts ≡ false) → full_is_empty d ≡ false
 inside_full bytes true names d ts own mid y s h e f g = some_full bytes names d ts own mid y s e f (g refl)

@@ -9,7 +9,7 @@ use Rattle.c_token.specs.declared.token.Keyword.{Keyword}
 use Rattle.c_token.specs.declared.token.Mark.{Mark}
 use Rattle.c_token.specs.declared.token.Mark.TheVariants as marks
 use Rattle.c_tree.specs.Tree.{Tree, depth}
-use Rattle.c_tree.specs.Declarations.{Full, full_unnamed, full_named, full_inside, full_end, full_bounded, full_open, full_empty, full_void, full_parameters}
+use Rattle.c_tree.specs.Declarations.{Full, full_unnamed, full_named, full_inside, full_end, full_bounded, full_open, full_empty, full_void, full_parameters, full_pointing}
 use Rattle.c_tree.specs.Tables.{level_of}
 use Rattle.c_tree.specs.Names.{Scope, is_type}
 use Rattle.c_tree.specs.Spelling.{Single, IsMark, Spells, IsWell}
@@ -197,29 +197,31 @@ closers_follow ts o = record { token = o.token; others = o.others; whole = o.who
     closer_follows k (inl e) = (passes_at (is_mark marks.LeftBracket) k (kinds.Mark marks.Comma) false e refl, passes_at (is_mark marks.LeftParenthesis) k (kinds.Mark marks.Comma) false e refl, ap is_identifier e)
     closer_follows k (inr e) = (passes_at (is_mark marks.LeftBracket) k (kinds.Mark marks.RightParenthesis) false e refl, passes_at (is_mark marks.LeftParenthesis) k (kinds.Mark marks.RightParenthesis) false e refl, ap is_identifier e)
 
--- a declarator that isn't empty begins with its name, a parenthesis or a bracket
+-- a declarator that isn't empty begins with its name, a parenthesis, a bracket or a star
 abbrev pub BeginsFull : Kind → Type 0
-BeginsFull k = (k ≡ kinds.Identifier) ⊎ ((k ≡ kinds.Mark marks.LeftParenthesis) ⊎ (k ≡ kinds.Mark marks.LeftBracket))
+BeginsFull k = (k ≡ kinds.Identifier) ⊎ ((k ≡ kinds.Mark marks.LeftParenthesis) ⊎ ((k ≡ kinds.Mark marks.LeftBracket) ⊎ (k ≡ kinds.Mark marks.Star)))
 
 pub full_opens : (bytes : List ℕ) (d : Full) (own : List Token) → full_is_empty d ≡ false → SpellsFull bytes d own → Opens BeginsFull own
 full_opens bytes (full_unnamed full_end) own e s = absurd cc
-full_opens bytes (full_unnamed (full_bounded line b ss)) own e s = record { token = s.token; others = s.rest; whole = s.whole; is = inr (inr s.is.kind) }
-full_opens bytes (full_unnamed (full_open line ss)) own e s = record { token = s.token; others = s.rest; whole = s.whole; is = inr (inr s.is.kind) }
+full_opens bytes (full_unnamed (full_bounded line b ss)) own e s = record { token = s.token; others = s.rest; whole = s.whole; is = inr (inr (inl s.is.kind)) }
+full_opens bytes (full_unnamed (full_open line ss)) own e s = record { token = s.token; others = s.rest; whole = s.whole; is = inr (inr (inl s.is.kind)) }
 full_opens bytes (full_unnamed (full_empty line ss)) own e s = record { token = s.token; others = s.rest; whole = s.whole; is = inr (inl s.is.kind) }
 full_opens bytes (full_unnamed (full_void line ss)) own e s = record { token = s.token; others = s.rest; whole = s.whole; is = inr (inl s.is.kind) }
 full_opens bytes (full_unnamed (full_parameters line ps v ss)) own e s = record { token = s.token; others = s.rest; whole = s.whole; is = inr (inl s.is.kind) }
 full_opens bytes (full_named line text ss) own e s = record { token = s.token; others = s.rest; whole = s.whole; is = inl s.is.kind }
 full_opens bytes (full_inside line d ss) own e s = record { token = s.token; others = s.rest; whole = s.whole; is = inr (inl s.is.kind) }
+full_opens bytes (full_pointing line qs d) own e s = record { token = s.token; others = s.rest; whole = s.whole; is = inr (inr (inr s.is.kind)) }
 
-pub full_not : (m : Mark) (k : Kind) → is_mark m (kinds.Mark marks.LeftParenthesis) ≡ false → is_mark m (kinds.Mark marks.LeftBracket) ≡ false → BeginsFull k → is_mark m k ≡ false
-full_not m k e f (inl g) = passes_at (is_mark m) k kinds.Identifier false g refl
-full_not m k e f (inr (inl g)) = passes_at (is_mark m) k (kinds.Mark marks.LeftParenthesis) false g e
-full_not m k e f (inr (inr g)) = passes_at (is_mark m) k (kinds.Mark marks.LeftBracket) false g f
+pub full_not : (m : Mark) (k : Kind) → is_mark m (kinds.Mark marks.LeftParenthesis) ≡ false → is_mark m (kinds.Mark marks.LeftBracket) ≡ false → is_mark m (kinds.Mark marks.Star) ≡ false → BeginsFull k → is_mark m k ≡ false
+full_not m k e f h (inl g) = passes_at (is_mark m) k kinds.Identifier false g refl
+full_not m k e f h (inr (inl g)) = passes_at (is_mark m) k (kinds.Mark marks.LeftParenthesis) false g e
+full_not m k e f h (inr (inr (inl g))) = passes_at (is_mark m) k (kinds.Mark marks.LeftBracket) false g f
+full_not m k e f h (inr (inr (inr g))) = passes_at (is_mark m) k (kinds.Mark marks.Star) false g h
 
-pub full_opens_not : (bytes : List ℕ) (m : Mark) (d : Full) (own : List Token) → is_mark m (kinds.Mark marks.LeftParenthesis) ≡ false → is_mark m (kinds.Mark marks.LeftBracket) ≡ false → full_is_empty d ≡ false → SpellsFull bytes d own → Opens (IsNot m) own
-full_opens_not bytes m d own e f h s =
+pub full_opens_not : (bytes : List ℕ) (m : Mark) (d : Full) (own : List Token) → is_mark m (kinds.Mark marks.LeftParenthesis) ≡ false → is_mark m (kinds.Mark marks.LeftBracket) ≡ false → is_mark m (kinds.Mark marks.Star) ≡ false → full_is_empty d ≡ false → SpellsFull bytes d own → Opens (IsNot m) own
+full_opens_not bytes m d own e f g h s =
     let o = full_opens bytes d own h s in
-    record { token = o.token; others = o.others; whole = o.whole; is = full_not m o.token.kind e f o.is }
+    record { token = o.token; others = o.others; whole = o.whole; is = full_not m o.token.kind e f g o.is }
 
 -- no specifier begins, and no brace stands there
 pub record Quiet (inner : Bool) (bytes : List ℕ) (names : Scope) (before : Bool) (ts : List Token) : Type 0 where
@@ -251,6 +253,8 @@ full_quiet inner bytes names before (full_named line text ss) own rest s h f = r
 }
 full_quiet inner bytes names before (full_inside line d ss) own rest s h f =
     quiet_at_mark inner bytes names before marks.LeftParenthesis s.token (own ++ rest) (s.rest ++ rest) (from_token own rest s.rest s.token s.whole) s.is.kind refl
+full_quiet inner bytes names before (full_pointing line qs d) own rest s h f =
+    quiet_at_mark inner bytes names before marks.Star s.token (own ++ rest) (s.rest ++ rest) (from_token own rest s.rest s.token s.whole) s.is.kind refl
 
 closer_quiet : (inner : Bool) (bytes : List ℕ) (names : Scope) (before : Bool) (ts others : List Token) (t : Token) → ts ≡ t ∷ others → IsCloser t.kind → Quiet inner bytes names before ts
 closer_quiet inner bytes names before ts others t e (inl f) = quiet_at_mark inner bytes names before marks.Comma t ts others e f refl

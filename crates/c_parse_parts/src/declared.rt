@@ -1,12 +1,12 @@
 //! The names that a declarator declares, and those of a function's parameters.
 
-ghost use Rattle.std.specs.Prelude.{◌≡◌, ◌||◌, IfOk, map};
-ghost use Rattle.c_tree.specs.Declarations.{view_enumerator, view_part, parts_of, members_of, view_full, view_full_suffix, full_suffixes_of, full_end, parameters_of, name_of, full_has_name, or_suffixes, nearest, begins_function, is_function, is_typedef, have_typedef, with_enumerators, with_part, with_parts, with_members, with_named, with_parameters, with_parameters_of};
+ghost use Rattle.std.specs.Prelude.{◌≡◌, ◌||◌, IfOk, false, map};
+ghost use Rattle.c_tree.specs.Declarations.{view_enumerator, view_part, parts_of, members_of, view_full, view_full_suffix, full_suffixes_of, full_end, parameters_of, name_of, full_has_name, or_suffixes, nearest, Full, full_behind, begin_function, is_function_within, is_function, is_typedef, have_typedef, with_enumerators, with_part, with_parts, with_members, with_named, with_parameters, with_parameters_of};
 
 use c_parse_expr::TypeNames;
 use c_tree::{
-    DeclaratorSuffix, Enumerator, FullDeclarator, MemberDeclaration, Parameter, Specifier,
-    StorageClass,
+    DeclaratorSuffix, Enumerator, FullDeclarator, MemberDeclaration, Parameter, PointerMark,
+    Specifier, StorageClass,
 };
 use std::alloc::{AllocError, Global};
 
@@ -215,7 +215,7 @@ fn declare_nearest(
 }
 
 fn is_of_function(suffix: &DeclaratorSuffix) -> bool
-    ensures { result ≡ begins_function (view_full_suffix suffix.now full_end) }
+    ensures { result ≡ begin_function (view_full_suffix suffix.now full_end) false }
 {
     match suffix {
         DeclaratorSuffix::Bounded { .. } => false,
@@ -226,13 +226,23 @@ fn is_of_function(suffix: &DeclaratorSuffix) -> bool
     }
 }
 
-/// Whether the suffixes nearest to a declarator's name are those of a function.
-fn begins_function(suffixes: &[DeclaratorSuffix]) -> bool
-    ensures { result ≡ begins_function (full_suffixes_of suffixes.now) }
+/// Whether suffixes are those of a function, where what stands around them is of one or not.
+fn begin_function(suffixes: &[DeclaratorSuffix], outer: bool) -> bool
+    ensures { result ≡ begin_function (full_suffixes_of suffixes.now) outer }
 {
     match suffixes {
         [first, ..] => is_of_function(first),
-        [] => false,
+        [] => outer,
+    }
+}
+
+/// Whether what stands behind pointers is inside a function's declarator, where what stands around them is one or not.
+fn behind_pointers(pointers: &[PointerMark], outer: bool) -> bool
+    ensures { (d : Full) → is_function_within (full_behind pointers.now d) outer ≡ is_function_within d result }
+{
+    match pointers {
+        [_, ..] => false,
+        [] => outer,
     }
 }
 
@@ -253,7 +263,7 @@ fn nearest(declarator: &FullDeclarator) -> &[DeclaratorSuffix]
     ensures { full_suffixes_of result.now ≡ nearest (view_full declarator.now) }
 {
     match declarator {
-        FullDeclarator::Unnamed { suffixes } => suffixes,
+        FullDeclarator::Unnamed { suffixes, .. } => suffixes,
         FullDeclarator::Named { suffixes, .. } => suffixes,
         FullDeclarator::Inside {
             inner,
@@ -263,11 +273,36 @@ fn nearest(declarator: &FullDeclarator) -> &[DeclaratorSuffix]
     }
 }
 
+/// Whether a declarator is that of a function, where what stands around it is one or not.
+fn is_function_within(declarator: &FullDeclarator, outer: bool) -> bool
+    ensures { result ≡ is_function_within (view_full declarator.now) outer }
+{
+    match declarator {
+        FullDeclarator::Unnamed { pointers, suffixes } => {
+            begin_function(suffixes, behind_pointers(pointers, outer))
+        }
+        FullDeclarator::Named {
+            pointers,
+            suffixes,
+            ..
+        } => begin_function(suffixes, behind_pointers(pointers, outer)),
+        FullDeclarator::Inside {
+            pointers,
+            inner,
+            suffixes,
+            ..
+        } => is_function_within(
+            inner,
+            begin_function(suffixes, behind_pointers(pointers, outer)),
+        ),
+    }
+}
+
 /// Whether a declarator is that of a function.
 pub fn is_function(declarator: &FullDeclarator) -> bool
     ensures { result ≡ is_function (view_full declarator.now) }
 {
-    begins_function(nearest(declarator))
+    is_function_within(declarator, false)
 }
 
 /// Declares the parameters of a function's declarator, with the enumerators in their specifiers.

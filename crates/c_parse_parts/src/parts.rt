@@ -450,6 +450,7 @@ fn inside<'a>(
     let inner = Box::new(frame.alloc, declarator)?;
     Ok((
         FullDeclarator::Inside {
+            pointers: Vec::new(frame.alloc),
             line,
             inner,
             suffixes,
@@ -463,6 +464,7 @@ fn nothing(alloc: Global) -> FullDeclarator
     ensures { view_full result ≡ full_unnamed full_end }
 {
     FullDeclarator::Unnamed {
+        pointers: Vec::new(alloc),
         suffixes: Vec::new(alloc),
     }
 }
@@ -503,7 +505,8 @@ fn full_behind<'a>(
         DeclaratorStart::Nothing => Ok((nothing(frame.alloc), tokens)),
         DeclaratorStart::Suffixes => {
             let (suffixes, rest) = suffixes(frame, names, tokens)?;
-            Ok((FullDeclarator::Unnamed { suffixes }, rest))
+            let pointers = Vec::new(frame.alloc);
+            Ok((FullDeclarator::Unnamed { pointers, suffixes }, rest))
         }
         DeclaratorStart::Name => {
             let Some((token, rest)) = split(tokens) else {
@@ -514,6 +517,7 @@ fn full_behind<'a>(
             let (suffixes, rest) = suffixes(frame, names, rest)?;
             Ok((
                 FullDeclarator::Named {
+                    pointers: Vec::new(frame.alloc),
                     line,
                     name,
                     suffixes,

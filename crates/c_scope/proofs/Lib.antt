@@ -7,3 +7,4 @@ pub mod Variables
 pub mod Arrays
 pub mod Parted
 pub mod Compared
+pub mod Lines

@@ -7,7 +7,7 @@ use Rattle.c_tree.specs.declared.specifier.Qualifier.TheVariants as qualifiers
 use Rattle.c_tree.specs.declared.specifier.TagKind.{TagKind}
 use Rattle.c_tree.specs.declared.specifier.TagKind.TheVariants as tag_kinds
 use Rattle.c_tree.specs.declared.declaration.StorageClass.{StorageClass}
-use Rattle.c_tree.specs.Tree.{TypePart, qualified, word, tagged, typedef_name, Declared, unnamed, named, inside, no_suffix, bounded, unbounded}
+use Rattle.c_tree.specs.Tree.{TypePart, qualified, word, tagged, typedef_name, Declared, unnamed, named, inside, no_suffix, bounded, unbounded, pointing}
 use Rattle.c_types.specs.declared.integers.IntegerType.TheVariants as types
 use Rattle.c_types.specs.declared.types.ValueType.{ValueType}
 use Rattle.c_types.specs.declared.types.ValueType.TheVariants.{Void, Integer}
@@ -245,6 +245,7 @@ declared_line (unnamed (bounded line e rest)) = line
 declared_line (unnamed (unbounded line rest)) = line
 declared_line (named line n suffixes) = line
 declared_line (inside line d suffixes) = line
+declared_line (pointing line qs d) = line
 
 -- rule 4: an array has from 1 to 2,147,483,647 elements, and at most so many bytes
 abbrev pub sized_array : List Completed → CType → Option ℕ → Option CType

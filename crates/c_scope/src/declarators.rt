@@ -1,27 +1,44 @@
 //! What declarators make of types.
 
 ghost use Rattle.std.specs.Prelude.{◌≡◌, ◌≤◌, true, Ok, MatchResult, IfOk, IfErr};
-ghost use Rattle.c_tree.specs.Tree.{unnamed, suffixes_of, view_declarator};
+ghost use Rattle.c_tree.specs.Tree.{Declared, unnamed, suffixes_of, behind_pointers, view_core, view_declarator};
 ghost use Rattle.c_types.specs.Types.{view};
 ghost use Rattle.c_types.specs.Layouts.{is_complete, is_sized, size_of, most_bytes};
 ghost use Rattle.c_scope.specs.Types.{declared_line, one_array, arrays_of, has_open, array_of, element_type, type_size};
 ghost use Rattle.c_scope.specs.Faults.{Gives, GivesNode, Fails, Unbroken, IsRule, IsTyping, on_line};
 
 use crate::fault::{Broken, TypingError};
-use c_tree::{ArraySuffix, Declarator, DeclaratorCore};
+use c_tree::{ArraySuffix, Declarator, DeclaratorCore, PointerMark};
 use c_types::{LayoutError, Layouts, MOST_BYTES, Ty, is_complete, is_sized, size_of};
 use std::alloc::Global;
 use std::rc::Rc;
 
-/// The line of a declarator's first token, 0 where it is empty.
-pub fn declared_line(declarator: &Declarator) -> u32
-    ensures { result ≡ declared_line (view_declarator declarator.now) }
+// The line of the first of pointers, or of what stands behind them.
+fn pointers_line(pointers: &[PointerMark], behind: u32) -> u32
+    ensures { (d : Declared) → behind ≡ declared_line d → result ≡ declared_line (behind_pointers pointers.now d) }
+{
+    match pointers {
+        [first, ..] => first.line,
+        [] => behind,
+    }
+}
+
+// The line of the first token of a declarator behind its pointers.
+fn direct_line(declarator: &Declarator) -> u32
+    ensures { result ≡ declared_line (view_core declarator.now.core (suffixes_of declarator.now.suffixes.items)) }
 {
     match &declarator.core {
         DeclaratorCore::Absent => suffixes_line(&declarator.suffixes),
         DeclaratorCore::Named { line, .. } => *line,
         DeclaratorCore::Inside { line, .. } => *line,
     }
+}
+
+/// The line of a declarator's first token, 0 where it is empty.
+pub fn declared_line(declarator: &Declarator) -> u32
+    ensures { result ≡ declared_line (view_declarator declarator.now) }
+{
+    pointers_line(&declarator.pointers, direct_line(declarator))
 }
 
 fn suffixes_line(suffixes: &[ArraySuffix]) -> u32

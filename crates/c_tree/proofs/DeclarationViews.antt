@@ -1,9 +1,10 @@
 -- The view of a structure, of a declarator and of an initializer in braces, which hold lists in memory.
-use Rattle.std.proofs.Common.{◌≡◌, List, ℕ, refl, ap, sym, ◌∙◌}
+use Rattle.std.proofs.Common.{◌≡◌, ◌≤◌, max, List, [], ◌∷◌, ℕ, refl, ap, sym, ◌∙◌, arith}
 use mathlib.Core.Former.{Count}
 use Rattle.std.specs.Prelude.{Box, Vec, Bool, Option, option_map}
 use Rattle.std.specs.Global.{Global}
 use Rattle.c_tree.specs.declared.expr.Name.{Name}
+use Rattle.c_tree.specs.declared.expr.PointerMark.{PointerMark}
 use Rattle.c_tree.specs.declared.declaration.RecordKind.{RecordKind}
 use Rattle.c_tree.specs.declared.declaration.MemberDeclaration.{MemberDeclaration, Row_of-Specifier, end_of-Specifier, more_of-Specifier, items-the_row-Specifier, items_shown-the_row-Specifier-0, Row_of-FullDeclarator, end_of-FullDeclarator, more_of-FullDeclarator, items-the_row-FullDeclarator, items_shown-the_row-FullDeclarator-3}
 use Rattle.c_tree.specs.declared.declaration.Specifier.{Specifier, Record, Record', Row_of-MemberDeclaration, end_of-MemberDeclaration, more_of-MemberDeclaration, items-the_row-MemberDeclaration, items_hidden-the_row-MemberDeclaration-4}
@@ -11,8 +12,8 @@ use Rattle.c_tree.specs.declared.declaration.FullDeclarator.{FullDeclarator, Unn
 use Rattle.c_tree.specs.declared.declaration.DeclaratorSuffix.{DeclaratorSuffix, Parameters as Takes, Parameters', Row_of-Parameter, end_of-Parameter, more_of-Parameter, items-the_row-Parameter, items_hidden-the_row-Parameter-1}
 use Rattle.c_tree.specs.declared.declaration.Parameter.{Parameter}
 use Rattle.c_tree.specs.declared.declaration.Initializer.{Initializer, List as Braces, List', Row_of-Initializer, end_of-Initializer, more_of-Initializer, items-the_row-Initializer, items_hidden-the_row-Initializer-0}
-use Rattle.c_tree.specs.Tree.{view_name}
-use Rattle.c_tree.specs.Declarations.{Parts, Members, Full, Fulls, FullSuffixes, Parameters, part, structure, members, full, full_unnamed, full_named, full_inside, full_parameters, parameter, braces, initials, view_part, view_parts, view_members, view_full, view_fulls, view_full_suffix, view_full_suffixes, view_parameters, parts_of, members_of, fulls_of, full_suffixes_of, parameters_of, view_initializer, view_initializers, initials_of}
+use Rattle.c_tree.specs.Tree.{view_name, pointed}
+use Rattle.c_tree.specs.Declarations.{Parts, Members, Full, Fulls, FullSuffixes, Parameters, full_depth, part, structure, members, full, full_behind, full_unnamed, full_named, full_inside, full_parameters, parameter, braces, initials, view_part, view_parts, view_members, view_full, view_fulls, view_full_suffix, view_full_suffixes, view_parameters, parts_of, members_of, fulls_of, full_suffixes_of, parameters_of, view_initializer, view_initializers, initials_of}
 
 parts_row : (n : _) (row : Row_of-Specifier n) → view_parts row ≡ parts_of (items-the_row-Specifier n row)
 parts_row _ end_of-Specifier = refl
@@ -47,25 +48,25 @@ suffixes_row _ end_of-DeclaratorSuffix = refl
 suffixes_row _ (more_of-DeclaratorSuffix s rest) = ap (view_full_suffix s) (suffixes_row _ rest)
 
 abbrev full_row : FullDeclarator → (n : Count) × Row_of-DeclaratorSuffix n
-full_row (Unnamed' shape row) = (_, row)
-full_row (Named' line n shape row) = (_, row)
-full_row (Inside' line p d shape row) = (_, row)
+full_row (Unnamed' ps shape row) = (_, row)
+full_row (Named' ps line n shape row) = (_, row)
+full_row (Inside' ps line p d shape row) = (_, row)
 
 -- the views of declarators as code makes them
-pub view_unnamed : (ss : Vec DeclaratorSuffix Global) → view_full (Unnamed ss) ≡ full_unnamed (full_suffixes_of ss.items)
-view_unnamed ss =
-    let row = full_row (Unnamed ss) in
-    ap full_unnamed (suffixes_row row.0 row.1 ∙ ap full_suffixes_of (items_hidden-the_row-DeclaratorSuffix-2 ss))
+pub view_unnamed : (ps : Vec PointerMark Global) (ss : Vec DeclaratorSuffix Global) → view_full (Unnamed ps ss) ≡ full_behind ps.items (full_unnamed (full_suffixes_of ss.items))
+view_unnamed ps ss =
+    let row = full_row (Unnamed ps ss) in
+    ap (λ (x : FullSuffixes). full_behind ps.items (full_unnamed x)) (suffixes_row row.0 row.1 ∙ ap full_suffixes_of (items_hidden-the_row-DeclaratorSuffix-2 ss))
 
-pub view_named : (line : ℕ) (n : Name) (ss : Vec DeclaratorSuffix Global) → view_full (Named line n ss) ≡ full_named line (view_name n) (full_suffixes_of ss.items)
-view_named line n ss =
-    let row = full_row (Named line n ss) in
-    ap (full_named line (view_name n)) (suffixes_row row.0 row.1 ∙ ap full_suffixes_of (items_hidden-the_row-DeclaratorSuffix-2 ss))
+pub view_named : (ps : Vec PointerMark Global) (line : ℕ) (n : Name) (ss : Vec DeclaratorSuffix Global) → view_full (Named ps line n ss) ≡ full_behind ps.items (full_named line (view_name n) (full_suffixes_of ss.items))
+view_named ps line n ss =
+    let row = full_row (Named ps line n ss) in
+    ap (λ (x : FullSuffixes). full_behind ps.items (full_named line (view_name n) x)) (suffixes_row row.0 row.1 ∙ ap full_suffixes_of (items_hidden-the_row-DeclaratorSuffix-2 ss))
 
-pub view_inside : (line : ℕ) (d : Box FullDeclarator Global) (ss : Vec DeclaratorSuffix Global) → view_full (Inside line d ss) ≡ full_inside line (view_full d.value) (full_suffixes_of ss.items)
-view_inside line d ss =
-    let row = full_row (Inside line d ss) in
-    ap (full_inside line (view_full d.value)) (suffixes_row row.0 row.1 ∙ ap full_suffixes_of (items_hidden-the_row-DeclaratorSuffix-2 ss))
+pub view_inside : (ps : Vec PointerMark Global) (line : ℕ) (d : Box FullDeclarator Global) (ss : Vec DeclaratorSuffix Global) → view_full (Inside ps line d ss) ≡ full_behind ps.items (full_inside line (view_full d.value) (full_suffixes_of ss.items))
+view_inside ps line d ss =
+    let row = full_row (Inside ps line d ss) in
+    ap (λ (x : FullSuffixes). full_behind ps.items (full_inside line (view_full d.value) x)) (suffixes_row row.0 row.1 ∙ ap full_suffixes_of (items_hidden-the_row-DeclaratorSuffix-2 ss))
 
 parameter_made : (p q : Parts) (d : Full) (m n : Parameters) → p ≡ q → m ≡ n → parameter p d m ≡ parameter q d n
 parameter_made p q d m n e f = ap (λ (x : Parts). parameter x d m) e ∙ ap (parameter q d) f
@@ -99,3 +100,19 @@ pub view_braces : (line : ℕ) (is : Vec Initializer Global) → view_initialize
 view_braces line is =
     let row = braces_row (Braces line is) in
     ap (braces line) (initials_row row.0 row.1 ∙ ap initials_of (items_hidden-the_row-Initializer-0 is))
+
+-- what stands behind pointers is one level with them, unless there is none
+full_behind_depth_some : (p : PointerMark) (ps : List PointerMark) (d : Full) → full_depth (full_behind (p ∷ ps) d) ≡ max (full_depth d) 1
+full_behind_depth_some p [] d = refl
+full_behind_depth_some p (q ∷ ps) d = ap (λ (n : ℕ). max n 1) (full_behind_depth_some q ps d) ∙ omega arith
+
+pub full_behind_depth : (ps : List PointerMark) (d : Full) → full_depth (full_behind ps d) ≡ pointed ps (full_depth d)
+full_behind_depth [] d = refl
+full_behind_depth (p ∷ ps) d = full_behind_depth_some p ps d
+
+pub full_behind_least : (ps : List PointerMark) (d : Full) → full_depth d ≤ full_depth (full_behind ps d)
+full_behind_least [] d = omega arith
+full_behind_least (p ∷ ps) d = let below = full_behind_least ps d in omega (arith, below)
+
+pub full_behind_levels : (ps : List PointerMark) (d : Full) (levels result : ℕ) → result ≡ pointed ps levels → levels ≡ full_depth d → result ≡ full_depth (full_behind ps d)
+full_behind_levels ps d levels result e f = e ∙ ap (pointed ps) f ∙ sym (full_behind_depth ps d)

@@ -10,7 +10,7 @@ use Rattle.c_tree.specs.declared.declaration.InitDeclarator.{InitDeclarator}
 use Rattle.c_tree.specs.declared.declaration.MemberDeclaration.{MemberDeclaration}
 use Rattle.c_tree.specs.declared.declaration.Specifier.{Specifier}
 use Rattle.c_tree.specs.declared.declaration.Initializer.{Initializer}
-use Rattle.c_tree.specs.Tree.{view, boxed}
+use Rattle.c_tree.specs.Tree.{boxed}
 use Rattle.c_tree.specs.Declarations.{FullSuffixes, full_end, full_unnamed, view_enumerator, view_part, parts_of, members_of, view_full, fulls_of, view_full_suffix, full_suffixes_of, parameters_of, view_initializer, initials_of, declarators_of, value_depth, enumerators_depth, part_depth, parts_depth, members_depth, full_depth, fulls_depth, full_suffixes_depth, parameters_depth, initial_depth, initials_depth, initializer_depth, declarators_depth}
 
 abbrev pub deepest : {X : Type 0} → (X → ℕ) → List X → ℕ

@@ -1,6 +1,7 @@
 -- Declarations, without where they lie in memory (C11 6.7).
 use Rattle.std.specs.Prelude.{ℕ, ◌+◌, max, List, [], ◌∷◌, map, Bool, true, false, ◌||◌, Option, Some, None, option_map, if◌then◌else◌}
-use Rattle.c_tree.specs.declared.specifier.TypeSpecifier.{TypeSpecifier}
+use Rattle.c_tree.specs.declared.expr.PointerMark.{PointerMark}
+use Rattle.c_tree.specs.declared.specifier.Qualifier.{Qualifier}
 use Rattle.c_tree.specs.declared.declaration.StorageClass.{StorageClass}
 use Rattle.c_tree.specs.declared.declaration.StorageClass.TheVariants as storage_classes
 use Rattle.c_tree.specs.declared.declaration.FunctionSpecifier.{FunctionSpecifier}
@@ -17,7 +18,6 @@ use Rattle.c_tree.specs.declared.declaration.Enumerator.{Enumerator}
 use Rattle.c_tree.specs.declared.declaration.Initializer.{Initializer, Row_of-Initializer, end_of-Initializer, more_of-Initializer}
 use Rattle.c_tree.specs.declared.declaration.Initializer as initializers
 use Rattle.c_tree.specs.declared.declaration.InitDeclarator.{InitDeclarator}
-use Rattle.c_tree.specs.declared.declaration.Declaration.{Declaration}
 use Rattle.c_tree.specs.Tree.{TypePart, Tree, view_name, view_type_part, view, boxed, depth, type_part_line}
 use Rattle.c_tree.specs.Names.{Scope}
 use Rattle.c_tree.specs.Spelling.{specifies_type}
@@ -45,11 +45,12 @@ mutual
     no_member : Members
     members : (specifiers : Parts) (declarators : Fulls) (rest : Members) → Members
 
-  -- a declarator: without a name, of a name, or of a declarator in parentheses, each with the suffixes behind it
+  -- a declarator: without a name, of a name, or of a declarator in parentheses, each with the suffixes behind it; or `*` with qualifiers before one
   pub data Full : Type 0 where
     full_unnamed : (suffixes : FullSuffixes) → Full
     full_named : (line : ℕ) (bytes : List ℕ) (suffixes : FullSuffixes) → Full
     full_inside : (line : ℕ) (inner : Full) (suffixes : FullSuffixes) → Full
+    full_pointing : (line : ℕ) (qualifiers : List Qualifier) (inner : Full) → Full
 
   pub data Fulls : Type 0 where
     no_full : Fulls
@@ -86,6 +87,11 @@ pub data Declarators : Type 0 where
 abbrev pub view_enumerator : Enumerator → Enumerated
 view_enumerator e = record { line = e.line; name = view_name e.name; value = option_map boxed e.value }
 
+-- what stands behind pointers
+abbrev pub full_behind : List PointerMark → Full → Full
+full_behind [] d = d
+full_behind (p ∷ ps) d = full_pointing p.line p.qualifiers.items (full_behind ps d)
+
 abbrev mutual
   pub view_part : Specifier → Part
   view_part (specifiers.«Type» p) = type_part (view_type_part p)
@@ -103,9 +109,9 @@ abbrev mutual
   view_members (more_of-MemberDeclaration shape parts forms ds rest) = members (view_parts parts) (view_fulls ds) (view_members rest)
 
   pub view_full : FullDeclarator → Full
-  view_full (declarators.Unnamed' shape ss) = full_unnamed (view_full_suffixes ss)
-  view_full (declarators.Named' line n shape ss) = full_named line (view_name n) (view_full_suffixes ss)
-  view_full (declarators.Inside' line p d shape ss) = full_inside line (view_full d) (view_full_suffixes ss)
+  view_full (declarators.Unnamed' pointers shape ss) = full_behind pointers.items (full_unnamed (view_full_suffixes ss))
+  view_full (declarators.Named' pointers line n shape ss) = full_behind pointers.items (full_named line (view_name n) (view_full_suffixes ss))
+  view_full (declarators.Inside' pointers line p d shape ss) = full_behind pointers.items (full_inside line (view_full d) (view_full_suffixes ss))
 
   pub view_fulls : {m : _} → Row_of-FullDeclarator m → Fulls
   view_fulls end_of-FullDeclarator = no_full
@@ -183,7 +189,7 @@ abbrev pub declarators_of : List InitDeclarator → Declarators
 declarators_of [] = none_declared
 declarators_of (d ∷ ds) = view_init_declarator d (declarators_of ds)
 
--- Levels: an expression has its own; a declarator is one, but for the empty one, and its bounds and parameters lie below it;
+-- Levels: an expression has its own; a declarator is one, with the pointers before it, but for the empty one, and its bounds and parameters lie below it;
 -- the braces of a structure and of an initializer are one each; an initializer lies beside its declarator.
 abbrev pub value_depth : Option Tree → ℕ
 value_depth None = 0
@@ -218,6 +224,7 @@ abbrev mutual
   full_depth (full_unnamed (full_parameters line ps variadic rest)) = max (parameters_depth ps) (full_suffixes_depth rest) + 1
   full_depth (full_named line n suffixes) = full_suffixes_depth suffixes + 1
   full_depth (full_inside line d suffixes) = max (full_depth d) (full_suffixes_depth suffixes) + 1
+  full_depth (full_pointing line qs d) = max (full_depth d) 1
 
   pub fulls_depth : Fulls → ℕ
   fulls_depth no_full = 0
@@ -257,12 +264,14 @@ abbrev pub name_of : Full → List ℕ
 name_of (full_unnamed suffixes) = []
 name_of (full_named line n suffixes) = n
 name_of (full_inside line d suffixes) = name_of d
+name_of (full_pointing line qs d) = name_of d
 
 -- A declarator declares a name; an abstract one has none.
 abbrev pub full_has_name : Full → Bool
 full_has_name (full_unnamed suffixes) = false
 full_has_name (full_named line n suffixes) = true
 full_has_name (full_inside line d suffixes) = full_has_name d
+full_has_name (full_pointing line qs d) = full_has_name d
 
 -- Enumerators are declared one after the other, as no types.
 abbrev pub with_enumerators : Scope → List Enumerated → Scope
@@ -299,18 +308,26 @@ abbrev pub nearest : Full → FullSuffixes
 nearest (full_unnamed suffixes) = suffixes
 nearest (full_named line n suffixes) = suffixes
 nearest (full_inside line d suffixes) = or_suffixes (nearest d) suffixes
+nearest (full_pointing line qs d) = nearest d
 
-abbrev pub begins_function : FullSuffixes → Bool
-begins_function full_end = false
-begins_function (full_bounded line e rest) = false
-begins_function (full_open line rest) = false
-begins_function (full_empty line rest) = true
-begins_function (full_void line rest) = true
-begins_function (full_parameters line ps variadic rest) = true
+-- the suffixes of a function, where what stands around them is of one or not
+abbrev pub begin_function : FullSuffixes → Bool → Bool
+begin_function full_end outer = outer
+begin_function (full_bounded line e rest) outer = false
+begin_function (full_open line rest) outer = false
+begin_function (full_empty line rest) outer = true
+begin_function (full_void line rest) outer = true
+begin_function (full_parameters line ps variadic rest) outer = true
 
--- The declarator is of a function: the suffix nearest to its name has parameters or says that there are none.
+abbrev pub is_function_within : Full → Bool → Bool
+is_function_within (full_unnamed suffixes) outer = begin_function suffixes outer
+is_function_within (full_named line n suffixes) outer = begin_function suffixes outer
+is_function_within (full_inside line d suffixes) outer = is_function_within d (begin_function suffixes outer)
+is_function_within (full_pointing line qs d) outer = is_function_within d false
+
+-- The declarator is of a function: what stands nearest to its name is no pointer but a suffix that has parameters or says that there are none.
 abbrev pub is_function : Full → Bool
-is_function d = begins_function (nearest d)
+is_function d = is_function_within d false
 
 -- The names of declarators are declared one after the other, as types or not.
 abbrev pub with_declarators : Scope → Bool → Declarators → Scope

@@ -3,17 +3,16 @@ use Rattle.std.specs.Prelude.{◌≡◌, ◌≢◌, ◌≤◌, ℕ, List, [], �
 use Rattle.std.specs.Prelude.{◌⊎◌}
 use Rattle.c_token.specs.declared.token.Token.{Token}
 use Rattle.c_token.specs.declared.token.Kind.TheVariants as kinds
-use Rattle.c_token.specs.declared.token.Keyword.{Keyword}
 use Rattle.c_token.specs.declared.token.Keyword.TheVariants as keywords
 use Rattle.c_token.specs.declared.token.Mark.{Mark}
 use Rattle.c_token.specs.declared.token.Mark.TheVariants as marks
 use Rattle.c_tree.specs.declared.specifier.TypeWord.{TypeWord}
 use Rattle.c_tree.specs.declared.specifier.TypeWord.TheVariants as type_words
-use Rattle.c_tree.specs.Tree.{Tree, TypePart, qualified, word, tagged, typedef_name}
+use Rattle.c_tree.specs.Tree.{Tree, qualified, word, tagged, typedef_name}
 use Rattle.c_tree.specs.Tables.{level_of, storage_keyword, function_keyword, record_keyword}
 use Rattle.c_tree.specs.Names.{Scope, is_type, built_in_names}
-use Rattle.c_tree.specs.Spelling.{Single, Behind, Then, Nothing, IsMark, IsKeyword, On, Names, Reads, SpellsTypePart, Spells, IsWellTypePart, IsWell}
-use Rattle.c_tree.specs.Declarations.{Enumerated, Part, type_part, storage, function, structure, enumeration, Parts, no_part, part, Members, no_member, members, Full, full_unnamed, full_named, full_inside, Fulls, no_full, full, FullSuffixes, full_end, full_bounded, full_open, full_empty, full_void, full_parameters, Parameters, no_parameter, parameter, Initial, initial, braces, Initials, no_initial, initials, Declarators, none_declared, declarator, name_of, full_has_name, is_function, with_part, with_parts, with_named, with_function, with_body, with_declaration, have_typedef, specifies, specify}
+use Rattle.c_tree.specs.Spelling.{Single, Behind, Then, Nothing, IsMark, IsKeyword, On, Names, Reads, SpellsTypePart, SpellsQualifiers, Spells, IsWellTypePart, IsWell}
+use Rattle.c_tree.specs.Declarations.{Enumerated, Part, type_part, storage, function, structure, enumeration, Parts, no_part, part, Members, no_member, members, Full, full_unnamed, full_named, full_inside, full_pointing, Fulls, no_full, full, FullSuffixes, full_end, full_bounded, full_open, full_empty, full_void, full_parameters, Parameters, no_parameter, parameter, Initial, initial, braces, Initials, no_initial, initials, Declarators, none_declared, declarator, name_of, full_has_name, is_function, with_part, with_parts, with_named, with_function, with_body, with_declaration, have_typedef, specifies, specify}
 use Rattle.c_tree.specs.Statements.{Statement, block, if_then, if_else, evaluate, return_nothing, return_value, empty, while_loop, do_loop, for_loop, for_declared, switch_on, case_of, default_of, labelled, goto_label, break_off, continue_on, Items, done, declares, does, Externals, no_more, declared, defines, file_depth}
 
 -- a mark that closes a list, with a comma before it or not
@@ -82,6 +81,7 @@ abbrev mutual
   SpellsFull bytes (full_inside line d suffixes) =
       Behind (On line (kinds.Mark marks.LeftParenthesis))
       (Then (SpellsFull bytes d) (Behind (IsMark marks.RightParenthesis) (SpellsFullSuffixes bytes suffixes)))
+  SpellsFull bytes (full_pointing line qs d) = Behind (On line (kinds.Mark marks.Star)) (Then (SpellsQualifiers qs) (SpellsFull bytes d))
 
   pub SpellsFullSuffixes : List ℕ → FullSuffixes → List Token → Type 0
   SpellsFullSuffixes bytes full_end = Nothing
@@ -225,6 +225,7 @@ abbrev pub FrontIsNoType : Scope → Bool → Full → Type 0
 FrontIsNoType names before (full_unnamed suffixes) = Unit {0}
 FrontIsNoType names before (full_named line n suffixes) = before ≡ false → is_type names n ≡ false
 FrontIsNoType names before (full_inside line d suffixes) = Unit {0}
+FrontIsNoType names before (full_pointing line qs d) = Unit {0}
 
 abbrev pub FrontIsNoTypeOfMembers : Scope → Bool → Fulls → Type 0
 FrontIsNoTypeOfMembers names before no_full = Unit {0}
@@ -244,6 +245,7 @@ full_is_empty (full_unnamed (full_void line rest)) = false
 full_is_empty (full_unnamed (full_parameters line ps variadic rest)) = false
 full_is_empty (full_named line n suffixes) = false
 full_is_empty (full_inside line d suffixes) = false
+full_is_empty (full_pointing line qs d) = false
 
 abbrev pub is_void : TypeWord → Bool
 is_void type_words.«Void» = true
@@ -321,6 +323,7 @@ abbrev mutual
   IsWellFull names parameters (full_named line n suffixes) = AreWellFullSuffixes names suffixes
   IsWellFull names parameters (full_inside line d suffixes) =
       (full_is_empty d ≡ false) × OpensNoType names parameters d × IsWellFull names parameters d × AreWellFullSuffixes names suffixes
+  IsWellFull names parameters (full_pointing line qs d) = ⊥
 
   pub AreWellFullSuffixes : Scope → FullSuffixes → Type 0
   AreWellFullSuffixes names full_end = Unit {0}

@@ -9,7 +9,8 @@ use Rattle.c_token.specs.declared.token.Mark.{Mark}
 use Rattle.c_token.specs.declared.token.Mark.TheVariants as marks
 use Rattle.c_token.specs.Spelling.{text_of}
 use Rattle.c_tree.specs.declared.expr.BinaryOp.{BinaryOp}
-use Rattle.c_tree.specs.Tree.{TypePart, qualified, word, tagged, typedef_name, Tree, Trees, Declared, Suffixes, constant, character, strings, name, parens, unary, cast, sizeof_expr, sizeof_type, step, member, binary, choice, assign, comma, call, none, more, unnamed, named, inside, no_suffix, bounded, unbounded}
+use Rattle.c_tree.specs.declared.specifier.Qualifier.{Qualifier}
+use Rattle.c_tree.specs.Tree.{TypePart, qualified, word, tagged, typedef_name, Tree, Trees, Declared, Suffixes, constant, character, strings, name, parens, unary, address, dereference, cast, sizeof_expr, sizeof_type, step, member, arrow, subscript, binary, choice, assign, comma, call, none, more, unnamed, named, inside, pointing, no_suffix, bounded, unbounded}
 use Rattle.c_tree.specs.Tables.{strength_of, binary_mark, assign_mark, unary_mark, operand_level, step_mark, level_of, qualifier_keyword, word_keyword, tag_keyword}
 use Rattle.c_tree.specs.Names.{Scope, is_type}
 
@@ -94,6 +95,11 @@ abbrev pub SpellsTypeParts : List ℕ → List TypePart → List Token → Type 
 SpellsTypeParts bytes [] = Nothing
 SpellsTypeParts bytes (part ∷ parts) = Then (SpellsTypePart bytes part) (SpellsTypeParts bytes parts)
 
+-- qualifiers on any lines
+abbrev pub SpellsQualifiers : List Qualifier → List Token → Type 0
+SpellsQualifiers [] = Nothing
+SpellsQualifiers (q ∷ qs) = Behind (IsKeyword (qualifier_keyword q)) (SpellsQualifiers qs)
+
 -- The tokens spell the tree. A name's text lies in the bytes.
 abbrev mutual
   pub Spells : List ℕ → Tree → List Token → Type 0
@@ -103,6 +109,8 @@ abbrev mutual
   Spells bytes (name line n) = Single (Names bytes line n)
   Spells bytes (parens line e) = Behind (On line (kinds.Mark marks.LeftParenthesis)) (Then (Spells bytes e) (Single (IsMark marks.RightParenthesis)))
   Spells bytes (unary line op e) = Behind (On line (kinds.Mark (unary_mark op))) (Spells bytes e)
+  Spells bytes (address line e) = Behind (On line (kinds.Mark marks.Ampersand)) (Spells bytes e)
+  Spells bytes (dereference line e) = Behind (On line (kinds.Mark marks.Star)) (Spells bytes e)
   Spells bytes (cast line parts d e) =
       Behind (On line (kinds.Mark marks.LeftParenthesis))
       (Then (SpellsTypeParts bytes parts) (Then (SpellsDeclared bytes d) (Behind (IsMark marks.RightParenthesis) (Spells bytes e))))
@@ -112,6 +120,9 @@ abbrev mutual
       (Then (SpellsTypeParts bytes parts) (Then (SpellsDeclared bytes d) (Single (IsMark marks.RightParenthesis)))))
   Spells bytes (step line op e) = Then (Spells bytes e) (Single (On line (kinds.Mark (step_mark op))))
   Spells bytes (member line e n) = Then (Spells bytes e) (Behind (On line (kinds.Mark marks.Dot)) (Single (Reads bytes kinds.Identifier n)))
+  Spells bytes (arrow line e n) = Then (Spells bytes e) (Behind (On line (kinds.Mark marks.Arrow)) (Single (Reads bytes kinds.Identifier n)))
+  Spells bytes (subscript line a b) =
+      Then (Spells bytes a) (Behind (On line (kinds.Mark marks.LeftBracket)) (Then (Spells bytes b) (Single (IsMark marks.RightBracket))))
   Spells bytes (binary line op a b) = Then (Spells bytes a) (Behind (On line (kinds.Mark (binary_mark op))) (Spells bytes b))
   Spells bytes (choice line a b c) =
       Then (Spells bytes a) (Behind (On line (kinds.Mark marks.Question))
@@ -136,6 +147,7 @@ abbrev mutual
   SpellsDeclared bytes (inside line d suffixes) =
       Behind (On line (kinds.Mark marks.LeftParenthesis))
       (Then (SpellsDeclared bytes d) (Behind (IsMark marks.RightParenthesis) (SpellsSuffixes bytes suffixes)))
+  SpellsDeclared bytes (pointing line qs d) = Behind (On line (kinds.Mark marks.Star)) (Then (SpellsQualifiers qs) (SpellsDeclared bytes d))
 
   pub SpellsSuffixes : List ℕ → Suffixes → List Token → Type 0
   SpellsSuffixes bytes no_suffix = Nothing
@@ -173,16 +185,18 @@ is_empty (unnamed (bounded line e rest)) = false
 is_empty (unnamed (unbounded line rest)) = false
 is_empty (named line n suffixes) = false
 is_empty (inside line d suffixes) = false
+is_empty (pointing line qs d) = false
 
 -- A declarator declares a name; an abstract one has none.
 abbrev pub has_name : Declared → Bool
 has_name (unnamed suffixes) = false
 has_name (named line n suffixes) = true
 has_name (inside line d suffixes) = has_name d
+has_name (pointing line qs d) = has_name d
 
 -- Each operand is of a level that its place permits (C11 6.5): binary operators group to the left, assignments and `?:` to
 -- the right. Names in expressions aren't those of types. A declarator in parentheses isn't empty, and a bound is of the
--- level of `?:`.
+-- level of `?:`. No file has forms over pointers so far.
 abbrev mutual
   pub IsWell : Scope → Tree → Type 0
   IsWell names (constant line c) = Unit {0}
@@ -191,11 +205,15 @@ abbrev mutual
   IsWell names (name line n) = is_type names n ≡ false
   IsWell names (parens line e) = (1 ≤ level_of e) × IsWell names e
   IsWell names (unary line op e) = (operand_level op ≤ level_of e) × IsWell names e
+  IsWell names (address line e) = ⊥
+  IsWell names (dereference line e) = ⊥
   IsWell names (cast line parts d e) = AreSpecifiers names parts × (has_name d ≡ false) × IsWellDeclared names d × (14 ≤ level_of e) × IsWell names e
   IsWell names (sizeof_expr line e) = (15 ≤ level_of e) × IsWell names e
   IsWell names (sizeof_type line parts d) = AreSpecifiers names parts × (has_name d ≡ false) × IsWellDeclared names d
   IsWell names (step line op e) = (16 ≤ level_of e) × IsWell names e
   IsWell names (member line e n) = (16 ≤ level_of e) × IsWell names e
+  IsWell names (arrow line e n) = ⊥
+  IsWell names (subscript line a b) = ⊥
   IsWell names (binary line op a b) = (strength_of op ≤ level_of a) × (strength_of op + 1 ≤ level_of b) × IsWell names a × IsWell names b
   IsWell names (choice line a b c) = (4 ≤ level_of a) × (1 ≤ level_of b) × (3 ≤ level_of c) × IsWell names a × IsWell names b × IsWell names c
   IsWell names (assign line op a b) = (15 ≤ level_of a) × (2 ≤ level_of b) × IsWell names a × IsWell names b
@@ -210,6 +228,7 @@ abbrev mutual
   IsWellDeclared names (unnamed suffixes) = AreWellSuffixes names suffixes
   IsWellDeclared names (named line n suffixes) = AreWellSuffixes names suffixes
   IsWellDeclared names (inside line d suffixes) = (is_empty d ≡ false) × IsWellDeclared names d × AreWellSuffixes names suffixes
+  IsWellDeclared names (pointing line qs d) = ⊥
 
   pub AreWellSuffixes : Scope → Suffixes → Type 0
   AreWellSuffixes names no_suffix = Unit {0}

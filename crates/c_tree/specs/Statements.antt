@@ -1,6 +1,5 @@
 -- Statements and the file, without where they lie in memory (C11 6.8, 6.9).
 use Rattle.std.specs.Prelude.{ℕ, ◌+◌, max, List, [], ◌∷◌, Option, option_map}
-use Rattle.c_tree.specs.declared.statement.Definition.{Definition}
 use Rattle.c_tree.specs.declared.statement.External.{External}
 use Rattle.c_tree.specs.declared.statement.External.TheVariants as externals
 use Rattle.c_tree.specs.declared.statement.File.{File}

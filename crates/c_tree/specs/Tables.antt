@@ -22,7 +22,7 @@ use Rattle.c_tree.specs.declared.declaration.FunctionSpecifier.{FunctionSpecifie
 use Rattle.c_tree.specs.declared.declaration.FunctionSpecifier.TheVariants as function_specifiers
 use Rattle.c_tree.specs.declared.declaration.RecordKind.{RecordKind}
 use Rattle.c_tree.specs.declared.declaration.RecordKind.TheVariants as record_kinds
-use Rattle.c_tree.specs.Tree.{Tree, constant, character, strings, name, parens, unary, cast, sizeof_expr, sizeof_type, step, member, binary, choice, assign, comma, call}
+use Rattle.c_tree.specs.Tree.{Tree, constant, character, strings, name, parens, unary, address, dereference, cast, sizeof_expr, sizeof_type, step, member, arrow, subscript, binary, choice, assign, comma, call}
 
 -- The levels, lowest first: comma 1, assignment 2, ?: 3, the binary operators 4 to 13, cast 14, unary 15, postfix 16, primary
 -- 17.
@@ -119,11 +119,15 @@ level_of (strings line parts) = 17
 level_of (name line n) = 17
 level_of (parens line e) = 17
 level_of (unary line op e) = 15
+level_of (address line e) = 15
+level_of (dereference line e) = 15
 level_of (cast line parts d e) = 14
 level_of (sizeof_expr line e) = 15
 level_of (sizeof_type line parts d) = 15
 level_of (step line op e) = 16
 level_of (member line e n) = 16
+level_of (arrow line e n) = 16
+level_of (subscript line a b) = 16
 level_of (binary line op a b) = strength_of op
 level_of (choice line a b c) = 3
 level_of (assign line op a b) = 2

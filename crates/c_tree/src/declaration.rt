@@ -1,6 +1,6 @@
 //! Declarations.
 
-use crate::expr::{Expr, Name};
+use crate::expr::{Expr, Name, PointerMark};
 use crate::specifier::TypeSpecifier;
 
 /// A storage class (C11 6.7.1).
@@ -64,20 +64,23 @@ pub struct MemberDeclaration {
 }
 
 /// A declarator of a declaration, of a member or of a parameter (C11 6.7.6), or the abstract one of a parameter, which has no
-/// name (C11 6.7.7) and is empty without suffixes.
+/// name (C11 6.7.7) and is empty without pointers and suffixes.
 #[derive(Drop)]
 #[cycle(specifier)]
 pub enum FullDeclarator {
     Unnamed {
+        pointers: Vec<PointerMark>,
         suffixes: Vec<DeclaratorSuffix>,
     },
     Named {
+        pointers: Vec<PointerMark>,
         line: u32,
         name: Name,
         suffixes: Vec<DeclaratorSuffix>,
     },
     /// `(inner)` and suffixes, with the line of the parenthesis.
     Inside {
+        pointers: Vec<PointerMark>,
         line: u32,
         inner: Box<FullDeclarator>,
         suffixes: Vec<DeclaratorSuffix>,

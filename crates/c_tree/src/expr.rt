@@ -1,6 +1,6 @@
 //! Expressions, and the type names and declarators in them.
 
-use crate::specifier::TypeSpecifier;
+use crate::specifier::{Qualifier, TypeSpecifier};
 use c_token::Constant;
 
 /// A name, by its bytes.
@@ -51,7 +51,8 @@ pub enum StepOp {
 }
 
 /// An expression. Each node but a call has the line of its own token: of the constant, the name, the first string, the operator,
-/// the `?`, the `.`, the `sizeof`, or the parenthesis that opens it. A call has the line of its function's name, which is a node.
+/// the `?`, the `.`, the `->`, the `sizeof`, or the bracket or parenthesis that opens it. A call has the line of its function's
+/// name, which is a node.
 #[derive(Drop)]
 #[cycle(expression)]
 pub enum Expr {
@@ -82,6 +83,16 @@ pub enum Expr {
         operator: UnaryOp,
         operand: Box<Expr>,
     },
+    /// `&operand`
+    Address {
+        line: u32,
+        operand: Box<Expr>,
+    },
+    /// `*operand`
+    Dereference {
+        line: u32,
+        operand: Box<Expr>,
+    },
     /// `(type_name) operand`
     Cast {
         line: u32,
@@ -109,6 +120,18 @@ pub enum Expr {
         line: u32,
         left: Box<Expr>,
         name: Name,
+    },
+    /// `left->name`
+    Arrow {
+        line: u32,
+        left: Box<Expr>,
+        name: Name,
+    },
+    /// `left[index]`
+    Subscript {
+        line: u32,
+        left: Box<Expr>,
+        index: Box<Expr>,
     },
     Binary {
         line: u32,
@@ -149,11 +172,19 @@ pub struct TypeName {
     pub declarator: Declarator,
 }
 
+/// `*` before a declarator, with its line and the qualifiers behind it (C11 6.7.6.1).
+#[derive(Drop)]
+pub struct PointerMark {
+    pub line: u32,
+    pub qualifiers: Vec<Qualifier>,
+}
+
 /// A declarator (C11 6.7.6), or an abstract one, which has no name (C11 6.7.7). The empty abstract declarator is an absent core
-/// without suffixes.
+/// without pointers and suffixes.
 #[derive(Drop)]
 #[cycle(expression)]
 pub struct Declarator {
+    pub pointers: Vec<PointerMark>,
     pub core: DeclaratorCore,
     pub suffixes: Vec<ArraySuffix>,
 }

@@ -10,7 +10,7 @@ use crate::declaration::{
     MemberDeclaration, Parameter, Specifier,
 };
 use crate::expr::Expr;
-use crate::levels::{expression_depth, larger};
+use crate::levels::{expression_depth, larger, pointed_depth};
 use crate::statement::{External, File, Item, Stmt};
 
 fn value_depth(value: &Option<Box<Expr>>) -> u32
@@ -100,19 +100,27 @@ fn full_depth(declarator: &FullDeclarator) -> u32
     ensures { result ≡ full_depth (view_full declarator.now) }
 {
     match declarator {
-        FullDeclarator::Unnamed { suffixes } => {
+        FullDeclarator::Unnamed { pointers, suffixes } => {
             if are_none(suffixes) {
-                0
+                pointed_depth(pointers, 0)
             } else {
-                full_suffixes_depth(suffixes) + 1
+                pointed_depth(pointers, full_suffixes_depth(suffixes) + 1)
             }
         }
-        FullDeclarator::Named { suffixes, .. } => full_suffixes_depth(suffixes) + 1,
+        FullDeclarator::Named {
+            pointers,
+            suffixes,
+            ..
+        } => pointed_depth(pointers, full_suffixes_depth(suffixes) + 1),
         FullDeclarator::Inside {
+            pointers,
             inner,
             suffixes,
             ..
-        } => larger(full_depth(inner), full_suffixes_depth(suffixes)) + 1,
+        } => pointed_depth(
+            pointers,
+            larger(full_depth(inner), full_suffixes_depth(suffixes)) + 1,
+        ),
     }
 }
 

@@ -1,9 +1,9 @@
 //! How many levels an expression and a declarator have.
 
 ghost use Rattle.std.specs.Prelude.{◌≡◌, ◌<◌, ◌^◌, max};
-ghost use Rattle.c_tree.specs.Tree.{no_suffix, unnamed, view, views_of, view_declarator, view_suffix, suffixes_of, depth, depth_of, declared_depth, suffixes_depth};
+ghost use Rattle.c_tree.specs.Tree.{no_suffix, unnamed, view, views_of, view_core, view_declarator, view_suffix, suffixes_of, pointed, depth, depth_of, declared_depth, suffixes_depth};
 
-use crate::expr::{ArraySuffix, Declarator, DeclaratorCore, Expr};
+use crate::expr::{ArraySuffix, Declarator, DeclaratorCore, Expr, PointerMark};
 
 /// The larger of two numbers of levels.
 pub fn larger(a: u32, b: u32) -> u32
@@ -57,11 +57,21 @@ fn unnamed_depth(suffixes: &[ArraySuffix], levels: u32) -> u32
     if suffixes.is_empty() { 0 } else { levels + 1 }
 }
 
-/// The number of the declarator's levels: each declarator is one, but the empty one none, and its bounds lie below it.
+/// The levels of what stands behind pointers, with these.
+pub(crate) fn pointed_depth(pointers: &[PointerMark], levels: u32) -> u32
+    ensures { result ≡ pointed pointers.now levels }
+{
+    match pointers {
+        [] => levels,
+        [_, ..] => larger(levels, 1),
+    }
+}
+
+/// The levels of a declarator without the pointers before it.
 #[cycle(expressions)]
-pub fn declarator_depth(declarator: &Declarator) -> u32
-    requires { declared_depth (view_declarator declarator.now) < 2 ^ 32 }
-    ensures { result ≡ declared_depth (view_declarator declarator.now) }
+fn direct_depth(declarator: &Declarator) -> u32
+    requires { declared_depth (view_core declarator.now.core (suffixes_of declarator.now.suffixes.items)) < 2 ^ 32 }
+    ensures { result ≡ declared_depth (view_core declarator.now.core (suffixes_of declarator.now.suffixes.items)) }
 {
     match &declarator.core {
         DeclaratorCore::Absent => {
@@ -77,6 +87,15 @@ pub fn declarator_depth(declarator: &Declarator) -> u32
     }
 }
 
+/// The number of the declarator's levels: each declarator is one, but the empty one none, and its bounds lie below it.
+#[cycle(expressions)]
+pub fn declarator_depth(declarator: &Declarator) -> u32
+    requires { declared_depth (view_declarator declarator.now) < 2 ^ 32 }
+    ensures { result ≡ declared_depth (view_declarator declarator.now) }
+{
+    pointed_depth(&declarator.pointers, direct_depth(declarator))
+}
+
 /// The number of the tree's levels: each node is one.
 #[cycle(expressions)]
 pub fn expression_depth(expr: &Expr) -> u32
@@ -90,6 +109,8 @@ pub fn expression_depth(expr: &Expr) -> u32
         Expr::Name { .. } => 1,
         Expr::Parens { inner, .. } => expression_depth(inner) + 1,
         Expr::Unary { operand, .. } => expression_depth(operand) + 1,
+        Expr::Address { operand, .. } => expression_depth(operand) + 1,
+        Expr::Dereference { operand, .. } => expression_depth(operand) + 1,
         Expr::Cast {
             type_name,
             operand,
@@ -102,6 +123,10 @@ pub fn expression_depth(expr: &Expr) -> u32
         Expr::SizeofType { type_name, .. } => declarator_depth(&type_name.declarator) + 1,
         Expr::Step { operand, .. } => expression_depth(operand) + 1,
         Expr::Member { left, .. } => expression_depth(left) + 1,
+        Expr::Arrow { left, .. } => expression_depth(left) + 1,
+        Expr::Subscript { left, index, .. } => {
+            larger(expression_depth(left), expression_depth(index)) + 1
+        }
         Expr::Binary { left, right, .. } => larger(expression_depth(left), expression_depth(right))
             + 1,
         Expr::Choice { test, yes, no, .. } => larger(

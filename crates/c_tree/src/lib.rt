@@ -13,7 +13,8 @@ pub use declaration::{
     Initializer, MemberDeclaration, Parameter, RecordKind, Specifier, StorageClass,
 };
 pub use expr::{
-    ArraySuffix, BinaryOp, Declarator, DeclaratorCore, Expr, Name, StepOp, TypeName, UnaryOp,
+    ArraySuffix, BinaryOp, Declarator, DeclaratorCore, Expr, Name, PointerMark, StepOp, TypeName,
+    UnaryOp,
 };
 pub use file_levels::depth;
 pub use levels::{declarator_depth, expression_depth};

@@ -2,8 +2,8 @@
 -- call of an assertion calls. Each definition puts those of one tree behind others.
 use Rattle.std.specs.Prelude.{ℕ, Bool, ◌||◌, ◌++◌, List, [], ◌∷◌, Option, Some, None, if◌then◌else◌, codes}
 use Rattle.std.specs.Str.{bytes_eq}
-use Rattle.c_tree.specs.Tree.{Tree, constant, character, strings, name, parens, unary, cast, sizeof_expr, sizeof_type, step, member, binary, choice, assign, comma, call, Trees, none, more, Declared, unnamed, named, inside, Suffixes, no_suffix, bounded, unbounded}
-use Rattle.c_tree.specs.Declarations.{Enumerated, Part, type_part, storage, function, structure, enumeration, Parts, no_part, part, Members, no_member, members, Full, full_unnamed, full_named, full_inside, Fulls, no_full, full, FullSuffixes, full_end, full_bounded, full_open, full_empty, full_void, full_parameters, Parameters, no_parameter, parameter, Initial, initial, braces, Initials, no_initial, initials, Declarators, none_declared, declarator}
+use Rattle.c_tree.specs.Tree.{Tree, constant, character, strings, name, parens, unary, cast, sizeof_expr, sizeof_type, step, member, binary, choice, assign, comma, call, Trees, none, more, Declared, unnamed, named, inside, Suffixes, no_suffix, bounded, unbounded, address, dereference, arrow, subscript, pointing}
+use Rattle.c_tree.specs.Declarations.{Enumerated, Part, type_part, storage, function, structure, enumeration, Parts, no_part, part, Members, no_member, members, Full, full_unnamed, full_named, full_inside, Fulls, no_full, full, FullSuffixes, full_end, full_bounded, full_open, full_empty, full_void, full_parameters, Parameters, no_parameter, parameter, Initial, initial, braces, Initials, no_initial, initials, Declarators, none_declared, declarator, full_pointing}
 use Rattle.c_tree.specs.Statements.{Statement, block, if_then, if_else, evaluate, return_nothing, return_value, empty, while_loop, do_loop, for_loop, for_declared, switch_on, case_of, default_of, labelled, goto_label, break_off, continue_on, Items, done, declares, does}
 use Rattle.properties.specs.declared.spots.Spot.{Spot}
 use Rattle.properties.specs.declared.spots.Spot.TheVariants as spots
@@ -36,11 +36,15 @@ abbrev mutual
   with_tree before (name line n) = before
   with_tree before (parens line e) = with_tree before e
   with_tree before (unary line op e) = with_tree before e
+  with_tree before (address line e) = with_tree before e
+  with_tree before (dereference line e) = with_tree before e
   with_tree before (cast line parts d e) = with_tree (with_declared before d) e
   with_tree before (sizeof_expr line e) = with_tree before e
   with_tree before (sizeof_type line parts d) = with_declared before d
   with_tree before (step line op e) = with_tree before e
   with_tree before (member line e n) = with_tree before e
+  with_tree before (arrow line e n) = with_tree before e
+  with_tree before (subscript line a b) = with_tree (with_tree before a) b
   with_tree before (binary line op a b) = with_tree (with_tree before a) b
   with_tree before (choice line a b c) = with_tree (with_tree (with_tree before a) b) c
   with_tree before (assign line op a b) = with_tree (with_tree before a) b
@@ -55,6 +59,7 @@ abbrev mutual
   with_declared before (unnamed suffixes) = with_suffixes before suffixes
   with_declared before (named line n suffixes) = with_suffixes before suffixes
   with_declared before (inside line d suffixes) = with_suffixes (with_declared before d) suffixes
+  with_declared before (pointing line qs d) = with_declared before d
 
   pub with_suffixes : List Spot → Suffixes → List Spot
   with_suffixes before no_suffix = before
@@ -91,6 +96,7 @@ abbrev mutual
   with_full before (full_unnamed suffixes) = with_full_suffixes before suffixes
   with_full before (full_named line n suffixes) = with_full_suffixes before suffixes
   with_full before (full_inside line d suffixes) = with_full_suffixes (with_full before d) suffixes
+  with_full before (full_pointing line qs d) = with_full before d
 
   pub with_fulls : List Spot → Fulls → List Spot
   with_fulls before no_full = before

@@ -77,7 +77,7 @@ fn push_full(declarator: &FullDeclarator, spots: &mut Vec<Spot>) -> Result<(), A
     ensures { OnOk result (spots.new.items ≡ with_full spots.old.items (view_full declarator.now)) }
 {
     match declarator {
-        FullDeclarator::Unnamed { suffixes } => {
+        FullDeclarator::Unnamed { suffixes, .. } => {
             push_full_suffixes(suffixes, spots)?;
             Ok(())
         }

@@ -2,7 +2,7 @@
 
 ghost use Rattle.std.specs.Prelude.{◌≡◌, OnOk};
 ghost use Rattle.std.specs.Option.{option_map};
-ghost use Rattle.c_tree.specs.Tree.{no_suffix, view, views_of, view_declarator, view_suffix, suffixes_of, boxed};
+ghost use Rattle.c_tree.specs.Tree.{no_suffix, view, views_of, view_declarator, view_suffix, suffixes_of, boxed, view_core};
 ghost use Rattle.properties.specs.Spots.{with_tree, with_trees, with_declared, with_suffixes, with_value};
 
 use crate::spots::{Spot, push_called};
@@ -42,9 +42,10 @@ fn push_suffixes(suffixes: &[ArraySuffix], spots: &mut Vec<Spot>) -> Result<(), 
     Ok(())
 }
 
+/// The assertions of a declarator without the pointers before it.
 #[cycle(expressions)]
-fn push_declarator(declarator: &Declarator, spots: &mut Vec<Spot>) -> Result<(), AllocError>
-    ensures { OnOk result (spots.new.items ≡ with_declared spots.old.items (view_declarator declarator.now)) }
+fn push_direct(declarator: &Declarator, spots: &mut Vec<Spot>) -> Result<(), AllocError>
+    ensures { OnOk result (spots.new.items ≡ with_declared spots.old.items (view_core declarator.now.core (suffixes_of declarator.now.suffixes.items))) }
 {
     match &declarator.core {
         DeclaratorCore::Absent => {
@@ -61,6 +62,14 @@ fn push_declarator(declarator: &Declarator, spots: &mut Vec<Spot>) -> Result<(),
             Ok(())
         }
     }
+}
+
+#[cycle(expressions)]
+fn push_declarator(declarator: &Declarator, spots: &mut Vec<Spot>) -> Result<(), AllocError>
+    ensures { OnOk result (spots.new.items ≡ with_declared spots.old.items (view_declarator declarator.now)) }
+{
+    push_direct(declarator, spots)?;
+    Ok(())
 }
 
 /// Two expressions, in their order.
@@ -91,6 +100,14 @@ pub fn push_expression(expr: &Expr, spots: &mut Vec<Spot>) -> Result<(), AllocEr
             push_expression(operand, spots)?;
             Ok(())
         }
+        Expr::Address { operand, .. } => {
+            push_expression(operand, spots)?;
+            Ok(())
+        }
+        Expr::Dereference { operand, .. } => {
+            push_expression(operand, spots)?;
+            Ok(())
+        }
         Expr::Cast {
             type_name,
             operand,
@@ -117,6 +134,14 @@ pub fn push_expression(expr: &Expr, spots: &mut Vec<Spot>) -> Result<(), AllocEr
         }
         Expr::Member { left, .. } => {
             push_expression(left, spots)?;
+            Ok(())
+        }
+        Expr::Arrow { left, .. } => {
+            push_expression(left, spots)?;
+            Ok(())
+        }
+        Expr::Subscript { left, index, .. } => {
+            push_both(left, index, spots)?;
             Ok(())
         }
         Expr::Binary { left, right, .. } => {

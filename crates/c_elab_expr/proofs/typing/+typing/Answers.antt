@@ -2,24 +2,25 @@ use Rattle.std.proofs.Common.{false, true, ◌≡◌, ◌+◌, ℕ, Bool, Option
 use Rattle.std.proofs.lemmas.List.{map-append, append-nil, drop_all}
 use Rattle.std.proofs.lemmas.Result.{err_from_is_err_and}
 use Rattle.c_tree.specs.declared.expr.Expr.{Expr}
-use Rattle.c_tree.specs.Tree.{Tree, Trees, first_line}
+use Rattle.c_tree.specs.Tree.{Tree, Trees, first_line, behind_pointers}
 use Rattle.c_tree.specs.Tree.{view as tree, views_of as trees}
 use Rattle.c_tree.specs.declared.expr.TypeName.{TypeName}
 use Rattle.c_tree.specs.declared.expr.Declarator.{Declarator}
 use Rattle.c_tree.specs.declared.expr.DeclaratorCore.{DeclaratorCore}
 use Rattle.c_tree.specs.declared.expr.ArraySuffix.{ArraySuffix}
 use Rattle.c_tree.specs.Tree.{Declared, inside, view_type_part, view_core, view_declarator, view_suffix, no_suffix, suffixes_of, depth, depth_of, declared_depth, suffixes_depth}
-use Rattle.c_tree.proofs.Views.{view_call, view_cast, view_sizeof_type, view_inside, depth_within, suffix_within}
+use Rattle.c_tree.proofs.Views.{view_call, view_cast, view_sizeof_type, view_inside, depth_within, suffix_within, behind_least}
 use Rattle.c_types.specs.Types.{Records}
 use Rattle.c_types.specs.Types.{view as type_view}
 use Rattle.c_operands.specs.declared.operands.CoreOperand.{CoreOperand}
 use Rattle.c_operands.specs.Operands.{Operand, view_operand, cast_operand, binary_operand, choice_operand, assign_operand}
 use Rattle.c_scope.specs.Scopes.{Scoped}
 use Rattle.c_scope.specs.Faults.{Fault, Gives, ◌>>=◌}
-use Rattle.c_elab_expr.specs.Typing.{Adds, node_on, node_on_both, comma_of, size_of_named, call_of, is_wanted, callee, typed, typed_arguments, operand_in, lengths, suffix_lengths, behind}
+use Rattle.c_elab_expr.specs.Typing.{Adds, node_on, node_on_both, comma_of, size_of_named, call_of, is_wanted, callee, typed, typed_arguments, operand_in, lengths, suffix_lengths, behind, RefusesFirst}
 use Rattle.c_elab_expr.proofs.Arguments.{fails_on, front, argument_fails, argument_typed, call_typed}
-use Rattle.c_elab_expr.proofs.Parts.{suffix_more, suffix_fails, inside_adds}
+use Rattle.c_elab_expr.proofs.Parts.{suffix_more, suffix_fails, inside_adds, lengths_refused}
 use Rattle.c_elab_expr.proofs.Casts.{named_type, cast_name_fails, cast_typed}
+use Rattle.c_tree.specs.declared.expr.PointerMark.{PointerMark}
 use Rattle.c_elab_expr.proofs.typing.+typing.Goals as goal
 
 pub typed_arguments-returns-in_err-argument : goal.typed_arguments-returns-in_err-argument
@@ -105,8 +106,8 @@ typed_expr-type_named-requires-in-SizeofType t c =
     let one = ap (λ (n : TypeName). declared_depth (view_declarator n.declarator)) c.deref-in-SizeofType.ensures in
     (omega (arith, e, one), tt)
 
-pub add_lengths-add_lengths-requires : goal.add_lengths-add_lengths-requires
-add_lengths-add_lengths-requires t c =
+pub add_direct_lengths-add_lengths-requires : goal.add_direct_lengths-add_lengths-requires
+add_direct_lengths-add_lengths-requires t c =
     let suffixes = suffixes_of c.args.declarator.now.suffixes.items in
     let e = ap (λ (core : DeclaratorCore). declared_depth (view_core core suffixes)) c.in-Inside.is ∙ ap declared_depth (view_inside c.in-Inside.line c.in-Inside.inner suffixes) in
     let one = ap (λ (d : Declarator). declared_depth (view_declarator d)) c.deref-in-Inside.ensures in
@@ -137,26 +138,26 @@ add_suffixes-loop-suffix-preserved t c =
     suffix_more s c.args.measured xs c.loop-suffix.suffix-index c.suffix-item.result c.loop-suffix.found.items c.add_suffix.new.found.items (behind c.args.found.now.items (suffix_lengths s c.args.measured (suffixes_of xs)))
     (omega arith) c.suffix-item.is c.loop-suffix.invariant c.in_ok-add_suffix.ensures
 
-pub add_lengths-returns-in_err-add_lengths-in-Inside : goal.add_lengths-returns-in_err-add_lengths-in-Inside
-add_lengths-returns-in_err-add_lengths-in-Inside t c =
+pub add_direct_lengths-returns-in_err-add_lengths-in-Inside : goal.add_direct_lengths-returns-in_err-add_lengths-in-Inside
+add_direct_lengths-returns-in_err-add_lengths-in-Inside t c =
     let p = err_from_is_err_and c.from_residual.result c.from_residual.ensures.1 in
     let s = c.args.scope.now in
     let suffixes = suffixes_of c.args.declarator.now.suffixes.items in
-    let shape : view_declarator c.args.declarator.now ≡ inside c.in-Inside.line (view_declarator c.in-Inside.inner.value) suffixes =
+    let shape : view_core c.args.declarator.now.core suffixes ≡ inside c.in-Inside.line (view_declarator c.in-Inside.inner.value) suffixes =
     ap (λ (core : DeclaratorCore). view_core core suffixes) c.in-Inside.is ∙ view_inside c.in-Inside.line c.in-Inside.inner suffixes in
     let same = ap (λ (d : Declarator). lengths s c.args.measured (view_declarator d)) c.deref-in-Inside.ensures in
-    rw (p.1, p.2) (fails_on c.in_err-add_lengths-in-Inside.field-0.0 (lengths s c.args.measured (view_declarator c.deref-in-Inside.result.now)) (lengths s c.args.measured (view_declarator c.args.declarator.now))
+    rw (p.1, p.2) (fails_on c.in_err-add_lengths-in-Inside.field-0.0 (lengths s c.args.measured (view_declarator c.deref-in-Inside.result.now)) (lengths s c.args.measured (view_core c.args.declarator.now.core suffixes))
     (λ f bad. ap (λ (d : Declared). lengths s c.args.measured d) shape ∙ ap (λ (r : Result (List (Option ℕ)) Fault). r >>= λ ms. suffix_lengths s c.args.measured suffixes >>= λ ns. Ok (ms ++ ns)) (sym same ∙ bad))
     c.in_err-add_lengths-in-Inside.ensures)
 
-pub add_lengths-returns-in_ok-add_lengths-in-Inside : goal.add_lengths-returns-in_ok-add_lengths-in-Inside
-add_lengths-returns-in_ok-add_lengths-in-Inside t c =
+pub add_direct_lengths-returns-in_ok-add_lengths-in-Inside : goal.add_direct_lengths-returns-in_ok-add_lengths-in-Inside
+add_direct_lengths-returns-in_ok-add_lengths-in-Inside t c =
     let s = c.args.scope.now in
     let before = c.args.found.now.items in
     let middle = c.add_lengths.new.found.items in
     let now = c.add_suffixes-in-Inside.new.found.items in
     let suffixes = suffixes_of c.args.declarator.now.suffixes.items in
-    let shape : view_declarator c.args.declarator.now ≡ inside c.in-Inside.line (view_declarator c.in-Inside.inner.value) suffixes =
+    let shape : view_core c.args.declarator.now.core suffixes ≡ inside c.in-Inside.line (view_declarator c.in-Inside.inner.value) suffixes =
     ap (λ (core : DeclaratorCore). view_core core suffixes) c.in-Inside.is ∙ view_inside c.in-Inside.line c.in-Inside.inner suffixes in
     let same = ap (λ (d : Declarator). lengths s c.args.measured (view_declarator d)) c.deref-in-Inside.ensures in
     let others = ap (λ (xs : List ArraySuffix). suffix_lengths s c.args.measured (suffixes_of xs)) c.deref-in-Inside-2.ensures.value in
@@ -164,6 +165,23 @@ add_lengths-returns-in_ok-add_lengths-in-Inside t c =
     let second = subst (λ (r : Result (List (Option ℕ)) Fault). Adds c.add_suffixes-in-Inside.result middle now r) others c.add_suffixes-in-Inside.ensures in
     subst (λ (r : Result (List (Option ℕ)) Fault). Adds c.add_suffixes-in-Inside.result before now r) (sym (ap (λ (d : Declared). lengths s c.args.measured d) shape))
     (inside_adds c.add_suffixes-in-Inside.result before middle now (lengths s c.args.measured (view_declarator c.in-Inside.inner.value)) (suffix_lengths s c.args.measured suffixes) first second)
+
+pub add_lengths-add_direct_lengths-requires : goal.add_lengths-add_direct_lengths-requires
+add_lengths-add_direct_lengths-requires t c =
+    let least = behind_least c.args.declarator.now.pointers.items (view_core c.args.declarator.now.core (suffixes_of c.args.declarator.now.suffixes.items)) in
+    (omega (arith, least), tt)
+
+pub add_lengths-returns-in_err-no_pointers : goal.add_lengths-returns-in_err-no_pointers
+add_lengths-returns-in_err-no_pointers t c =
+    let p = err_from_is_err_and c.from_residual.result c.from_residual.ensures.1 in
+    let first = subst (λ (ps : List PointerMark). RefusesFirst c.in_err-no_pointers.field-0.0 ps) c.deref.ensures.value c.in_err-no_pointers.ensures.first in
+    rw (p.1, p.2) (lengths_refused c.in_err-no_pointers.field-0.0 c.args.scope.now c.args.measured c.args.declarator.now.pointers.items (view_core c.args.declarator.now.core (suffixes_of c.args.declarator.now.suffixes.items)) first)
+
+pub add_lengths-returns : goal.add_lengths-returns
+add_lengths-returns t c =
+    let d = view_core c.args.declarator.now.core (suffixes_of c.args.declarator.now.suffixes.items) in
+    let none = sym c.deref.ensures.value ∙ c.in_ok-no_pointers.ensures.none in
+    subst (λ (ps : List PointerMark). Adds c.add_direct_lengths.result c.args.found.now.items c.add_direct_lengths.new.found.items (lengths c.args.scope.now c.args.measured (behind_pointers ps d))) (sym none) c.add_direct_lengths.ensures
 
 -- ---- type names
 

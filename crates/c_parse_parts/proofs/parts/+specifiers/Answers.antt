@@ -260,18 +260,18 @@ given-returns-clause-exact t c =
 
 pub inside-returns-clause-exact : goal.inside-returns-clause-exact
 inside-returns-clause-exact t c =
-    inside_made c.args.frame.bytes.now c.args.frame.levels (bodies_in c.args.frame) (fulls_in c.args.frame) c.args.inner c.args.names.now c.full.new.names c.args.line c.args.tokens.now _ _ _ c.in_ok-inner.inner c.in_ok-declarator.declarator c.in_ok-suffixes.suffixes
+    inside_made c.args.frame.bytes.now c.args.frame.levels (bodies_in c.args.frame) (fulls_in c.args.frame) c.args.inner c.args.names.now c.full.new.names c.args.line c.args.tokens.now _ _ _ c.in_ok-inner.inner c.in_ok-declarator.declarator c.new-2.result c.in_ok-suffixes.suffixes c.new-2.ensures.items
     c.in_ok-declarator.ensures.exact c.in-Some.ensures.value c.in_ok-declarator.ensures.names c.in_ok-suffixes.ensures.exact c.in_ok-inner.ensures.ok
 
 pub full_behind-returns-in_ok-suffixes-in-Suffixes-clause-exact : goal.full_behind-returns-in_ok-suffixes-in-Suffixes-clause-exact
 full_behind-returns-in_ok-suffixes-in-Suffixes-clause-exact t c =
     ap (λ (h : DeclaratorStart). full_from c.args.frame.bytes.now c.args.frame.levels (bodies_in c.args.frame) (fulls_in c.args.frame) c.args.inner c.args.names.now h c.args.tokens.now) c.in-Suffixes.is
-    ∙ unnamed_made c.args.frame.bytes.now c.args.frame.levels (bodies_in c.args.frame) (fulls_in c.args.frame) c.args.inner c.args.names.now c.args.tokens.now _ c.in_ok-suffixes-in-Suffixes.suffixes c.in_ok-suffixes-in-Suffixes.ensures.exact
+    ∙ unnamed_made c.args.frame.bytes.now c.args.frame.levels (bodies_in c.args.frame) (fulls_in c.args.frame) c.args.inner c.args.names.now c.args.tokens.now _ c.new-pointers.result c.in_ok-suffixes-in-Suffixes.suffixes c.new-pointers.ensures.items c.in_ok-suffixes-in-Suffixes.ensures.exact
 
 pub full_behind-returns-in_ok-suffixes-in-Name-clause-exact : goal.full_behind-returns-in_ok-suffixes-in-Name-clause-exact
 full_behind-returns-in_ok-suffixes-in-Name-clause-exact t c =
     ap (λ (h : DeclaratorStart). full_from c.args.frame.bytes.now c.args.frame.levels (bodies_in c.args.frame) (fulls_in c.args.frame) c.args.inner c.args.names.now h c.args.tokens.now) c.in-Name.is
-    ∙ named_made c.args.frame.bytes.now c.args.frame.levels (bodies_in c.args.frame) (fulls_in c.args.frame) c.args.inner c.args.names.now c.args.tokens.now _ _ c.in-Some.token c.in_ok-name-in-Name.name c.in_ok-suffixes-in-Name.suffixes c.in-Some.ensures c.in_ok-name-in-Name.ensures c.in_ok-suffixes-in-Name.ensures.exact
+    ∙ named_made c.args.frame.bytes.now c.args.frame.levels (bodies_in c.args.frame) (fulls_in c.args.frame) c.args.inner c.args.names.now c.args.tokens.now _ _ c.in-Some.token c.in_ok-name-in-Name.name c.new.result c.in_ok-suffixes-in-Name.suffixes c.new.ensures.items c.in-Some.ensures c.in_ok-name-in-Name.ensures c.in_ok-suffixes-in-Name.ensures.exact
 
 pub parameter-returns-clause-shorter : goal.parameter-returns-clause-shorter
 parameter-returns-clause-shorter t c =

@@ -1,11 +1,13 @@
-use Rattle.std.proofs.Common.{◌==◌, length, ◌<◌, ◌+◌, List, take, map, ap, ◌∙◌, arith}
+use Rattle.std.proofs.Common.{◌≡◌, ◌==◌, length, ◌<◌, ◌+◌, ℕ, List, take, ap, sym, ◌∙◌, arith}
 use Rattle.c_tree.specs.declared.declaration.Specifier.{Specifier}
 use Rattle.c_tree.specs.declared.declaration.MemberDeclaration.{MemberDeclaration}
 use Rattle.c_tree.specs.declared.declaration.FullDeclarator.{FullDeclarator}
 use Rattle.c_tree.specs.declared.declaration.DeclaratorSuffix.{DeclaratorSuffix}
 use Rattle.c_tree.specs.declared.declaration.Parameter.{Parameter}
-use Rattle.c_tree.specs.Declarations.{view_part, parts_of, members_of, view_full, fulls_of, view_full_suffix, full_suffixes_of, full_end, parameters_of, part_depth, parts_depth, members_depth, full_depth, fulls_depth, full_suffixes_depth, parameters_depth}
-use Rattle.c_tree.proofs.DeclarationViews.{view_record, view_unnamed, view_named, view_inside, view_takes}
+use Rattle.c_tree.specs.Declarations.{view_part, parts_of, members_of, view_full, fulls_of, view_full_suffix, full_suffixes_of, full_end, full_unnamed, full_named, full_inside, parameters_of, part_depth, parts_depth, members_depth, full_depth, fulls_depth, full_suffixes_depth, parameters_depth}
+use Rattle.c_tree.specs.declared.expr.PointerMark.{PointerMark}
+use Rattle.c_tree.specs.Tree.{view_name, pointed}
+use Rattle.c_tree.proofs.DeclarationViews.{view_record, view_unnamed, view_named, view_inside, view_takes, full_behind_least, full_behind_levels}
 use Rattle.c_tree.proofs.Deepest.{deepest_within, deepest_more, of_specifier, parts_deepest, of_member, members_deepest, of_declarator, fulls_deepest, of_suffix, full_suffixes_deepest, unnamed_empty, unnamed_more, of_parameter, parameters_deepest}
 use Rattle.c_tree.proofs.file_levels.+specifiers.Goals as goal
 
@@ -136,81 +138,95 @@ full_suffix_depth-returns-in-Parameters t c =
     let same = ap (λ (ps : List Parameter). parameters_depth (parameters_of ps)) c.deref-in-Parameters.ensures.value in
     omega (arith, e, same)
 
+-- the levels are those behind the pointers that are there
+at_pointers : (ps qs : List PointerMark) (levels result : ℕ) → ps ≡ qs → result ≡ pointed ps levels → result ≡ pointed qs levels
+at_pointers ps qs levels result e f = f ∙ ap (λ (xs : List PointerMark). pointed xs levels) e
+
 pub full_depth-full_suffixes_depth-requires : goal.full_depth-full_suffixes_depth-requires
 full_depth-full_suffixes_depth-requires t c =
-    let e = ap (λ (d : FullDeclarator). of_declarator d) c.in-Unnamed.is ∙ ap full_depth (view_unnamed c.in-Unnamed.suffixes) in
+    let e = ap (λ (d : FullDeclarator). of_declarator d) c.in-Unnamed.is ∙ ap full_depth (view_unnamed c.in-Unnamed.pointers c.in-Unnamed.suffixes) in
+    let least = full_behind_least c.in-Unnamed.pointers.items (full_unnamed (full_suffixes_of c.in-Unnamed.suffixes.items)) in
     let none = c.are_none.ensures ∙ ap (λ (ss : List DeclaratorSuffix). length ss == 0) c.deref.ensures.value in
     let one = unnamed_more c.in-Unnamed.suffixes.items c.are_none.result none c.if-are_none.false in
-    let same = ap (λ (ss : List DeclaratorSuffix). full_suffixes_depth (full_suffixes_of ss)) c.deref-else-are_none.ensures.value in
+    let same = ap (λ (ss : List DeclaratorSuffix). full_suffixes_depth (full_suffixes_of ss)) c.deref-else-are_none-2.ensures.value in
     let small : full_depth (view_full c.args.declarator.now) < 4294967296 = c.requires in
-    (omega (arith, e, one, same), omega (arith, e, one, same))
+    (omega (arith, e, least, one, same), omega (arith, e, least, one, same))
 
-pub full_depth-overflow_add-result : goal.full_depth-overflow_add-result
-full_depth-overflow_add-result t c =
-    let e = ap (λ (d : FullDeclarator). of_declarator d) c.in-Unnamed.is ∙ ap full_depth (view_unnamed c.in-Unnamed.suffixes) in
+pub full_depth-overflow_add-full_suffixes_depth : goal.full_depth-overflow_add-full_suffixes_depth
+full_depth-overflow_add-full_suffixes_depth t c =
+    let e = ap (λ (d : FullDeclarator). of_declarator d) c.in-Unnamed.is ∙ ap full_depth (view_unnamed c.in-Unnamed.pointers c.in-Unnamed.suffixes) in
+    let least = full_behind_least c.in-Unnamed.pointers.items (full_unnamed (full_suffixes_of c.in-Unnamed.suffixes.items)) in
     let none = c.are_none.ensures ∙ ap (λ (ss : List DeclaratorSuffix). length ss == 0) c.deref.ensures.value in
     let one = unnamed_more c.in-Unnamed.suffixes.items c.are_none.result none c.if-are_none.false in
-    let same = ap (λ (ss : List DeclaratorSuffix). full_suffixes_depth (full_suffixes_of ss)) c.deref-else-are_none.ensures.value in
-    omega (arith, e, one, same)
+    let same = ap (λ (ss : List DeclaratorSuffix). full_suffixes_depth (full_suffixes_of ss)) c.deref-else-are_none-2.ensures.value in
+    let small : full_depth (view_full c.args.declarator.now) < 4294967296 = c.requires in
+    omega (arith, e, least, one, same)
 
 pub full_depth-returns-then-are_none : goal.full_depth-returns-then-are_none
 full_depth-returns-then-are_none t c =
-    let e = ap (λ (d : FullDeclarator). of_declarator d) c.in-Unnamed.is ∙ ap full_depth (view_unnamed c.in-Unnamed.suffixes) in
+    let e = ap (λ (d : FullDeclarator). of_declarator d) c.in-Unnamed.is ∙ ap full_depth (view_unnamed c.in-Unnamed.pointers c.in-Unnamed.suffixes) in
     let none = c.are_none.ensures ∙ ap (λ (ss : List DeclaratorSuffix). length ss == 0) c.deref.ensures.value in
     let one = unnamed_empty c.in-Unnamed.suffixes.items c.are_none.result none c.if-are_none.true in
-    omega (arith, e, one)
+    full_behind_levels c.in-Unnamed.pointers.items (full_unnamed (full_suffixes_of c.in-Unnamed.suffixes.items)) 0 c.pointed_depth.result (at_pointers c.deref-then-are_none.result.now c.in-Unnamed.pointers.items 0 c.pointed_depth.result c.deref-then-are_none.ensures.value c.pointed_depth.ensures) (sym one) ∙ sym e
 
 pub full_depth-returns-else-are_none : goal.full_depth-returns-else-are_none
 full_depth-returns-else-are_none t c =
-    let e = ap (λ (d : FullDeclarator). of_declarator d) c.in-Unnamed.is ∙ ap full_depth (view_unnamed c.in-Unnamed.suffixes) in
+    let e = ap (λ (d : FullDeclarator). of_declarator d) c.in-Unnamed.is ∙ ap full_depth (view_unnamed c.in-Unnamed.pointers c.in-Unnamed.suffixes) in
     let none = c.are_none.ensures ∙ ap (λ (ss : List DeclaratorSuffix). length ss == 0) c.deref.ensures.value in
     let one = unnamed_more c.in-Unnamed.suffixes.items c.are_none.result none c.if-are_none.false in
-    let same = ap (λ (ss : List DeclaratorSuffix). full_suffixes_depth (full_suffixes_of ss)) c.deref-else-are_none.ensures.value in
-    omega (arith, e, one, same)
+    let same = ap (λ (ss : List DeclaratorSuffix). full_suffixes_depth (full_suffixes_of ss)) c.deref-else-are_none-2.ensures.value in
+    full_behind_levels c.in-Unnamed.pointers.items (full_unnamed (full_suffixes_of c.in-Unnamed.suffixes.items)) (c.full_suffixes_depth.result + 1) c.pointed_depth-else-are_none.result (at_pointers c.deref-else-are_none.result.now c.in-Unnamed.pointers.items (c.full_suffixes_depth.result + 1) c.pointed_depth-else-are_none.result c.deref-else-are_none.ensures.value c.pointed_depth-else-are_none.ensures) (omega (arith, one, same)) ∙ sym e
 
 pub full_depth-full_suffixes_depth-requires-in-Named : goal.full_depth-full_suffixes_depth-requires-in-Named
 full_depth-full_suffixes_depth-requires-in-Named t c =
-    let e = ap (λ (d : FullDeclarator). of_declarator d) c.in-Named.is ∙ ap full_depth (view_named c.in-Named.line c.in-Named.name c.in-Named.suffixes) in
-    let same = ap (λ (ss : List DeclaratorSuffix). full_suffixes_depth (full_suffixes_of ss)) c.deref-in-Named.ensures.value in
+    let e = ap (λ (d : FullDeclarator). of_declarator d) c.in-Named.is ∙ ap full_depth (view_named c.in-Named.pointers c.in-Named.line c.in-Named.name c.in-Named.suffixes) in
+    let least = full_behind_least c.in-Named.pointers.items (full_named c.in-Named.line (view_name c.in-Named.name) (full_suffixes_of c.in-Named.suffixes.items)) in
+    let same = ap (λ (ss : List DeclaratorSuffix). full_suffixes_depth (full_suffixes_of ss)) c.deref-in-Named-2.ensures.value in
     let small : full_depth (view_full c.args.declarator.now) < 4294967296 = c.requires in
-    (omega (arith, e, same), omega (arith, e, same))
+    (omega (arith, e, least, same), omega (arith, e, least, same))
 
-pub full_depth-overflow_add-result-in-Named : goal.full_depth-overflow_add-result-in-Named
-full_depth-overflow_add-result-in-Named t c =
-    let e = ap (λ (d : FullDeclarator). of_declarator d) c.in-Named.is ∙ ap full_depth (view_named c.in-Named.line c.in-Named.name c.in-Named.suffixes) in
-    let same = ap (λ (ss : List DeclaratorSuffix). full_suffixes_depth (full_suffixes_of ss)) c.deref-in-Named.ensures.value in
-    omega (arith, e, same)
+pub full_depth-overflow_add-full_suffixes_depth-in-Named : goal.full_depth-overflow_add-full_suffixes_depth-in-Named
+full_depth-overflow_add-full_suffixes_depth-in-Named t c =
+    let e = ap (λ (d : FullDeclarator). of_declarator d) c.in-Named.is ∙ ap full_depth (view_named c.in-Named.pointers c.in-Named.line c.in-Named.name c.in-Named.suffixes) in
+    let least = full_behind_least c.in-Named.pointers.items (full_named c.in-Named.line (view_name c.in-Named.name) (full_suffixes_of c.in-Named.suffixes.items)) in
+    let same = ap (λ (ss : List DeclaratorSuffix). full_suffixes_depth (full_suffixes_of ss)) c.deref-in-Named-2.ensures.value in
+    let small : full_depth (view_full c.args.declarator.now) < 4294967296 = c.requires in
+    omega (arith, e, least, same)
 
 pub full_depth-returns-in-Named : goal.full_depth-returns-in-Named
 full_depth-returns-in-Named t c =
-    let e = ap (λ (d : FullDeclarator). of_declarator d) c.in-Named.is ∙ ap full_depth (view_named c.in-Named.line c.in-Named.name c.in-Named.suffixes) in
-    let same = ap (λ (ss : List DeclaratorSuffix). full_suffixes_depth (full_suffixes_of ss)) c.deref-in-Named.ensures.value in
-    omega (arith, e, same)
+    let e = ap (λ (d : FullDeclarator). of_declarator d) c.in-Named.is ∙ ap full_depth (view_named c.in-Named.pointers c.in-Named.line c.in-Named.name c.in-Named.suffixes) in
+    let same = ap (λ (ss : List DeclaratorSuffix). full_suffixes_depth (full_suffixes_of ss)) c.deref-in-Named-2.ensures.value in
+    full_behind_levels c.in-Named.pointers.items (full_named c.in-Named.line (view_name c.in-Named.name) (full_suffixes_of c.in-Named.suffixes.items)) (c.full_suffixes_depth-in-Named.result + 1) c.pointed_depth-in-Named.result (at_pointers c.deref-in-Named.result.now c.in-Named.pointers.items (c.full_suffixes_depth-in-Named.result + 1) c.pointed_depth-in-Named.result c.deref-in-Named.ensures.value c.pointed_depth-in-Named.ensures) (omega (arith, same)) ∙ sym e
 
 pub full_depth-full_depth-requires : goal.full_depth-full_depth-requires
 full_depth-full_depth-requires t c =
-    let e = ap (λ (d : FullDeclarator). of_declarator d) c.in-Inside.is ∙ ap full_depth (view_inside c.in-Inside.line c.in-Inside.inner c.in-Inside.suffixes) in
-    let one = ap (λ (d : FullDeclarator). of_declarator d) c.deref-in-Inside.ensures in
+    let e = ap (λ (d : FullDeclarator). of_declarator d) c.in-Inside.is ∙ ap full_depth (view_inside c.in-Inside.pointers c.in-Inside.line c.in-Inside.inner c.in-Inside.suffixes) in
+    let least = full_behind_least c.in-Inside.pointers.items (full_inside c.in-Inside.line (view_full c.in-Inside.inner.value) (full_suffixes_of c.in-Inside.suffixes.items)) in
+    let one = ap (λ (d : FullDeclarator). of_declarator d) c.deref-in-Inside-2.ensures in
     let small : full_depth (view_full c.args.declarator.now) < 4294967296 = c.requires in
-    (omega (arith, e, one), omega (arith, e, one))
+    (omega (arith, e, least, one), omega (arith, e, least, one))
 
 pub full_depth-full_suffixes_depth-requires-in-Inside : goal.full_depth-full_suffixes_depth-requires-in-Inside
 full_depth-full_suffixes_depth-requires-in-Inside t c =
-    let e = ap (λ (d : FullDeclarator). of_declarator d) c.in-Inside.is ∙ ap full_depth (view_inside c.in-Inside.line c.in-Inside.inner c.in-Inside.suffixes) in
-    let same = ap (λ (ss : List DeclaratorSuffix). full_suffixes_depth (full_suffixes_of ss)) c.deref-in-Inside-2.ensures.value in
+    let e = ap (λ (d : FullDeclarator). of_declarator d) c.in-Inside.is ∙ ap full_depth (view_inside c.in-Inside.pointers c.in-Inside.line c.in-Inside.inner c.in-Inside.suffixes) in
+    let least = full_behind_least c.in-Inside.pointers.items (full_inside c.in-Inside.line (view_full c.in-Inside.inner.value) (full_suffixes_of c.in-Inside.suffixes.items)) in
+    let same = ap (λ (ss : List DeclaratorSuffix). full_suffixes_depth (full_suffixes_of ss)) c.deref-in-Inside-3.ensures.value in
     let small : full_depth (view_full c.args.declarator.now) < 4294967296 = c.requires in
-    (omega (arith, e, same), omega (arith, e, same))
+    (omega (arith, e, least, same), omega (arith, e, least, same))
 
-pub full_depth-overflow_add-result-in-Inside : goal.full_depth-overflow_add-result-in-Inside
-full_depth-overflow_add-result-in-Inside t c =
-    let e = ap (λ (d : FullDeclarator). of_declarator d) c.in-Inside.is ∙ ap full_depth (view_inside c.in-Inside.line c.in-Inside.inner c.in-Inside.suffixes) in
-    let one = ap (λ (d : FullDeclarator). of_declarator d) c.deref-in-Inside.ensures in
-    let same = ap (λ (ss : List DeclaratorSuffix). full_suffixes_depth (full_suffixes_of ss)) c.deref-in-Inside-2.ensures.value in
-    omega (arith, e, one, same)
+pub full_depth-overflow_add-larger : goal.full_depth-overflow_add-larger
+full_depth-overflow_add-larger t c =
+    let e = ap (λ (d : FullDeclarator). of_declarator d) c.in-Inside.is ∙ ap full_depth (view_inside c.in-Inside.pointers c.in-Inside.line c.in-Inside.inner c.in-Inside.suffixes) in
+    let least = full_behind_least c.in-Inside.pointers.items (full_inside c.in-Inside.line (view_full c.in-Inside.inner.value) (full_suffixes_of c.in-Inside.suffixes.items)) in
+    let one = ap (λ (d : FullDeclarator). of_declarator d) c.deref-in-Inside-2.ensures in
+    let same = ap (λ (ss : List DeclaratorSuffix). full_suffixes_depth (full_suffixes_of ss)) c.deref-in-Inside-3.ensures.value in
+    let small : full_depth (view_full c.args.declarator.now) < 4294967296 = c.requires in
+    omega (arith, e, least, one, same)
 
 pub full_depth-returns-in-Inside : goal.full_depth-returns-in-Inside
 full_depth-returns-in-Inside t c =
-    let e = ap (λ (d : FullDeclarator). of_declarator d) c.in-Inside.is ∙ ap full_depth (view_inside c.in-Inside.line c.in-Inside.inner c.in-Inside.suffixes) in
-    let one = ap (λ (d : FullDeclarator). of_declarator d) c.deref-in-Inside.ensures in
-    let same = ap (λ (ss : List DeclaratorSuffix). full_suffixes_depth (full_suffixes_of ss)) c.deref-in-Inside-2.ensures.value in
-    omega (arith, e, one, same)
+    let e = ap (λ (d : FullDeclarator). of_declarator d) c.in-Inside.is ∙ ap full_depth (view_inside c.in-Inside.pointers c.in-Inside.line c.in-Inside.inner c.in-Inside.suffixes) in
+    let one = ap (λ (d : FullDeclarator). of_declarator d) c.deref-in-Inside-2.ensures in
+    let same = ap (λ (ss : List DeclaratorSuffix). full_suffixes_depth (full_suffixes_of ss)) c.deref-in-Inside-3.ensures.value in
+    full_behind_levels c.in-Inside.pointers.items (full_inside c.in-Inside.line (view_full c.in-Inside.inner.value) (full_suffixes_of c.in-Inside.suffixes.items)) (c.larger.result + 1) c.pointed_depth-in-Inside.result (at_pointers c.deref-in-Inside.result.now c.in-Inside.pointers.items (c.larger.result + 1) c.pointed_depth-in-Inside.result c.deref-in-Inside.ensures.value c.pointed_depth-in-Inside.ensures) (omega (arith, one, same)) ∙ sym e

@@ -1,4 +1,4 @@
-use Rattle.std.proofs.Common.{take, ◌+◌, ap, ◌∙◌, arith}
+use Rattle.std.proofs.Common.{take, ◌+◌, ap, arith}
 use Rattle.c_tree.specs.declared.declaration.InitDeclarator.{InitDeclarator}
 use Rattle.c_tree.proofs.Deepest.{deepest_within, deepest_more, declarators_deepest, of_init_declarator}
 use Rattle.c_tree.proofs.file_levels.declarators_depth.Goals as goal

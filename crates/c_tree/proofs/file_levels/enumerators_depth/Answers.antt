@@ -1,4 +1,4 @@
-use Rattle.std.proofs.Common.{take, ◌+◌, ap, ◌∙◌, arith}
+use Rattle.std.proofs.Common.{take, ◌+◌, ap, arith}
 use Rattle.c_tree.specs.declared.declaration.Enumerator.{Enumerator}
 use Rattle.c_tree.proofs.Deepest.{deepest_within, deepest_more, enumerators_deepest, of_enumerator}
 use Rattle.c_tree.proofs.file_levels.enumerators_depth.Goals as goal

@@ -4,13 +4,14 @@ use Rattle.c_tree.specs.declared.declaration.MemberDeclaration.{MemberDeclaratio
 use Rattle.c_tree.specs.declared.declaration.FullDeclarator.{FullDeclarator}
 use Rattle.c_tree.specs.declared.declaration.DeclaratorSuffix.{DeclaratorSuffix}
 use Rattle.c_tree.specs.declared.declaration.Parameter.{Parameter}
-use Rattle.c_tree.specs.Declarations.{view_part, parts_of, members_of, view_full, fulls_of, full_suffixes_of, full_end, parameters_of, part_depth, parts_depth, members_depth, full_depth, fulls_depth, full_suffixes_depth, parameters_depth}
-use Rattle.c_tree.proofs.DeclarationViews.{view_record, view_unnamed, view_named, view_inside, view_takes}
+use Rattle.c_tree.specs.Declarations.{view_part, parts_of, members_of, view_full, fulls_of, full_suffixes_of, full_end, parameters_of, part_depth, parts_depth, members_depth, full_depth, fulls_depth, full_suffixes_depth, parameters_depth, full_unnamed, full_named, full_inside}
+use Rattle.c_tree.proofs.DeclarationViews.{view_record, view_unnamed, view_named, view_inside, view_takes, full_behind_least}
 use Rattle.c_tree.proofs.Deepest.{deepest_within, of_specifier, parts_deepest, of_member, members_deepest, of_declarator, fulls_deepest, of_suffix, full_suffixes_deepest, of_parameter, parameters_deepest}
 use Rattle.properties.proofs.Behind.{by_specifier, parts_in_turn, by_member, members_in_turn, by_full, fulls_in_turn, by_full_suffix, full_suffixes_in_turn, by_parameter, parameters_in_turn, one_more, at_end, unnamed_above}
 use Rattle.properties.specs.declared.spots.Spot.{Spot}
 use Rattle.properties.specs.Spots.{with_parts, with_full, with_fulls}
 use Rattle.properties.proofs.Arms.{record_arm, unnamed_arm, named_arm, full_inside_arm, parameters_arm}
+use Rattle.c_tree.specs.Tree.{view_name}
 use Rattle.properties.proofs.declarations.+specifiers.Goals as goal
 
 pub push_part-push_members-requires : goal.push_part-push_members-requires
@@ -79,28 +80,32 @@ push_full_suffix-push_parameters-requires t c =
 
 pub push_full-push_full_suffixes-requires : goal.push_full-push_full_suffixes-requires
 push_full-push_full_suffixes-requires t c =
-    let e = ap (λ (d : FullDeclarator). of_declarator d) c.in-Unnamed.is ∙ ap full_depth (view_unnamed c.in-Unnamed.suffixes) in
+    let e = ap (λ (d : FullDeclarator). of_declarator d) c.in-Unnamed.is ∙ ap full_depth (view_unnamed c.in-Unnamed.pointers c.in-Unnamed.suffixes) in
     let same = ap (λ (ss : List DeclaratorSuffix). full_suffixes_depth (full_suffixes_of ss)) c.deref.ensures.value in
     let many = ap (λ (ss : List DeclaratorSuffix). length ss) c.deref.ensures.value in
-    omega (arith, e, same, many, unnamed_above c.in-Unnamed.suffixes.items)
+    let least = full_behind_least c.in-Unnamed.pointers.items (full_unnamed (full_suffixes_of c.in-Unnamed.suffixes.items)) in
+    omega (arith, e, same, many, least, unnamed_above c.in-Unnamed.suffixes.items)
 
 pub push_full-push_full_suffixes-requires-in-Named : goal.push_full-push_full_suffixes-requires-in-Named
 push_full-push_full_suffixes-requires-in-Named t c =
-    let e = ap (λ (d : FullDeclarator). of_declarator d) c.in-Named.is ∙ ap full_depth (view_named c.in-Named.line c.in-Named.name c.in-Named.suffixes) in
+    let e = ap (λ (d : FullDeclarator). of_declarator d) c.in-Named.is ∙ ap full_depth (view_named c.in-Named.pointers c.in-Named.line c.in-Named.name c.in-Named.suffixes) in
     let same = ap (λ (ss : List DeclaratorSuffix). full_suffixes_depth (full_suffixes_of ss)) c.deref-in-Named.ensures.value in
-    omega (arith, e, same)
+    let least = full_behind_least c.in-Named.pointers.items (full_named c.in-Named.line (view_name c.in-Named.name) (full_suffixes_of c.in-Named.suffixes.items)) in
+    omega (arith, e, same, least)
 
 pub push_full-push_full-requires : goal.push_full-push_full-requires
 push_full-push_full-requires t c =
-    let e = ap (λ (d : FullDeclarator). of_declarator d) c.in-Inside.is ∙ ap full_depth (view_inside c.in-Inside.line c.in-Inside.inner c.in-Inside.suffixes) in
+    let e = ap (λ (d : FullDeclarator). of_declarator d) c.in-Inside.is ∙ ap full_depth (view_inside c.in-Inside.pointers c.in-Inside.line c.in-Inside.inner c.in-Inside.suffixes) in
     let one = ap (λ (d : FullDeclarator). of_declarator d) c.deref-in-Inside.ensures in
-    omega (arith, e, one)
+    let least = full_behind_least c.in-Inside.pointers.items (full_inside c.in-Inside.line (view_full c.in-Inside.inner.value) (full_suffixes_of c.in-Inside.suffixes.items)) in
+    omega (arith, e, one, least)
 
 pub push_full-push_full_suffixes-requires-in-Inside : goal.push_full-push_full_suffixes-requires-in-Inside
 push_full-push_full_suffixes-requires-in-Inside t c =
-    let e = ap (λ (d : FullDeclarator). of_declarator d) c.in-Inside.is ∙ ap full_depth (view_inside c.in-Inside.line c.in-Inside.inner c.in-Inside.suffixes) in
+    let e = ap (λ (d : FullDeclarator). of_declarator d) c.in-Inside.is ∙ ap full_depth (view_inside c.in-Inside.pointers c.in-Inside.line c.in-Inside.inner c.in-Inside.suffixes) in
     let same = ap (λ (ss : List DeclaratorSuffix). full_suffixes_depth (full_suffixes_of ss)) c.deref-in-Inside-2.ensures.value in
-    omega (arith, e, same)
+    let least = full_behind_least c.in-Inside.pointers.items (full_inside c.in-Inside.line (view_full c.in-Inside.inner.value) (full_suffixes_of c.in-Inside.suffixes.items)) in
+    omega (arith, e, same, least)
 
 pub push_parts-loop-specifier-preserved : goal.push_parts-loop-specifier-preserved
 push_parts-loop-specifier-preserved t c =
@@ -147,15 +152,15 @@ push_part-returns-in_ok-push_members-in-Record t c =
 
 pub push_full-returns-in_ok-push_full_suffixes-in-Unnamed : goal.push_full-returns-in_ok-push_full_suffixes-in-Unnamed
 push_full-returns-in_ok-push_full_suffixes-in-Unnamed t c =
-    unnamed_arm _ _ c.in-Unnamed.suffixes c.args.declarator.now _ c.in-Unnamed.is c.in_ok-push_full_suffixes-in-Unnamed.ensures c.deref.ensures.value
+    unnamed_arm _ _ c.in-Unnamed.pointers c.in-Unnamed.suffixes c.args.declarator.now _ c.in-Unnamed.is c.in_ok-push_full_suffixes-in-Unnamed.ensures c.deref.ensures.value
 
 pub push_full-returns-in_ok-push_full_suffixes-in-Named : goal.push_full-returns-in_ok-push_full_suffixes-in-Named
 push_full-returns-in_ok-push_full_suffixes-in-Named t c =
-    named_arm _ _ c.in-Named.line c.in-Named.name c.in-Named.suffixes c.args.declarator.now _ c.in-Named.is c.in_ok-push_full_suffixes-in-Named.ensures c.deref-in-Named.ensures.value
+    named_arm _ _ c.in-Named.pointers c.in-Named.line c.in-Named.name c.in-Named.suffixes c.args.declarator.now _ c.in-Named.is c.in_ok-push_full_suffixes-in-Named.ensures c.deref-in-Named.ensures.value
 
 pub push_full-returns-in_ok-push_full_suffixes-in-Inside : goal.push_full-returns-in_ok-push_full_suffixes-in-Inside
 push_full-returns-in_ok-push_full_suffixes-in-Inside t c =
-    full_inside_arm _ _ _ c.in-Inside.line c.in-Inside.inner c.in-Inside.suffixes c.args.declarator.now _ _ c.in-Inside.is c.in_ok-push_full-in-Inside.ensures c.deref-in-Inside.ensures
+    full_inside_arm _ _ _ c.in-Inside.pointers c.in-Inside.line c.in-Inside.inner c.in-Inside.suffixes c.args.declarator.now _ _ c.in-Inside.is c.in_ok-push_full-in-Inside.ensures c.deref-in-Inside.ensures
     c.in_ok-push_full_suffixes-in-Inside.ensures c.deref-in-Inside-2.ensures.value
 
 pub push_full_suffix-returns-in_ok-push_parameters-in-Parameters : goal.push_full_suffix-returns-in_ok-push_parameters-in-Parameters

@@ -1,13 +1,13 @@
-use Rattle.std.proofs.Common.{List, ap, ◌∙◌, arith}
+use Rattle.std.proofs.Common.{List, ap, ◌∙◌, arith, sym}
 use Rattle.c_tree.specs.declared.expr.Expr.{Expr}
 use Rattle.c_tree.specs.declared.expr.TypeName.{TypeName}
 use Rattle.c_tree.specs.declared.expr.Declarator.{Declarator}
 use Rattle.c_tree.specs.declared.expr.DeclaratorCore.{DeclaratorCore}
 use Rattle.c_tree.specs.declared.expr.ArraySuffix.{ArraySuffix}
 use Rattle.c_tree.specs.Tree.{no_suffix, view, views_of, view_core, view_declarator, view_suffix, suffixes_of, depth, depth_of, declared_depth, suffixes_depth}
-use Rattle.c_tree.proofs.Views.{view_call, view_cast, view_sizeof_type, view_inside, depth_within, suffix_within}
+use Rattle.c_tree.proofs.Views.{view_call, view_cast, view_sizeof_type, view_inside, depth_within, suffix_within, behind_least}
 use Rattle.properties.proofs.Behind.{by_expr, exprs_in_turn, by_suffix, suffixes_in_turn, one_more, at_end}
-use Rattle.properties.proofs.Arms.{call_arm, cast_arm, sizeof_arm, inside_arm}
+use Rattle.properties.proofs.Arms.{call_arm, cast_arm, sizeof_arm, inside_arm, behind_declared}
 use Rattle.properties.proofs.expressions.+expressions.Goals as goal
 
 pub push_expression-push_arguments-requires : goal.push_expression-push_arguments-requires
@@ -34,12 +34,21 @@ push_expression-push_declarator-requires-in-SizeofType t c =
     let one = ap (λ (t : TypeName). declared_depth (view_declarator t.declarator)) c.deref-in-SizeofType.ensures in
     omega (arith, e, one)
 
-pub push_declarator-push_declarator-requires : goal.push_declarator-push_declarator-requires
-push_declarator-push_declarator-requires t c =
+pub push_direct-push_declarator-requires : goal.push_direct-push_declarator-requires
+push_direct-push_declarator-requires t c =
     let suffixes = suffixes_of c.args.declarator.now.suffixes.items in
     let e = ap (λ (core : DeclaratorCore). declared_depth (view_core core suffixes)) c.in-Inside.is ∙ ap declared_depth (view_inside c.in-Inside.line c.in-Inside.inner suffixes) in
     let one = ap (λ (d : Declarator). declared_depth (view_declarator d)) c.deref-in-Inside.ensures in
     omega (arith, e, one)
+
+pub push_declarator-push_direct-requires : goal.push_declarator-push_direct-requires
+push_declarator-push_direct-requires t c =
+    let least = behind_least c.args.declarator.now.pointers.items (view_core c.args.declarator.now.core (suffixes_of c.args.declarator.now.suffixes.items)) in
+    omega (arith, least)
+
+pub push_declarator-returns : goal.push_declarator-returns
+push_declarator-returns t c =
+    c.in_ok-push_direct.ensures ∙ sym (behind_declared c.args.spots.now.items c.args.declarator.now.pointers.items (view_core c.args.declarator.now.core (suffixes_of c.args.declarator.now.suffixes.items)))
 
 pub push_suffixes-push_suffix-requires : goal.push_suffixes-push_suffix-requires
 push_suffixes-push_suffix-requires t c =
@@ -75,7 +84,7 @@ pub push_expression-returns-in_ok-push_declarator-in-SizeofType : goal.push_expr
 push_expression-returns-in_ok-push_declarator-in-SizeofType t c =
     sizeof_arm _ _ c.in-SizeofType.line c.in-SizeofType.type_name c.args.expr.now _ c.in-SizeofType.is c.in_ok-push_declarator-in-SizeofType.ensures c.deref-in-SizeofType.ensures
 
-pub push_declarator-returns-in_ok-push_suffixes-in-Inside : goal.push_declarator-returns-in_ok-push_suffixes-in-Inside
-push_declarator-returns-in_ok-push_suffixes-in-Inside t c =
+pub push_direct-returns-in_ok-push_suffixes-in-Inside : goal.push_direct-returns-in_ok-push_suffixes-in-Inside
+push_direct-returns-in_ok-push_suffixes-in-Inside t c =
     inside_arm _ _ _ c.in-Inside.line c.in-Inside.inner c.args.declarator.now _ _ c.in-Inside.is c.in_ok-push_declarator-in-Inside.ensures c.deref-in-Inside.ensures
     c.in_ok-push_suffixes-in-Inside.ensures c.deref-in-Inside-2.ensures.value
