@@ -12,8 +12,9 @@ ghost use Rattle.goto_prog.specs.declared.code.Instruction.{Instruction as GotoI
 use actions::Store;
 use c_types::IntegerType;
 use core_tree::Comparison;
+use event_forms::{Event, EventKind};
 use goto_prog::{Code, Instruction, Operation, Unrolled};
-use guarded_ssa::{Event, EventKind, threads};
+use guarded_ssa::threads;
 use std::alloc::{AllocError, Global};
 use std::test::Fail;
 use word_dag::{Dag, Id, Valuation};

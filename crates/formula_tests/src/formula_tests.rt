@@ -4,11 +4,11 @@
 
 ghost use Rattle.std.specs.Prelude.{IsTrue};
 ghost use Rattle.value_nodes.specs.Values.{IsWord, AreBytes};
-ghost use Rattle.guarded_ssa.specs.Forms.{IsBit, AreWords, EventIn, FormIn, IsFixed, IsStaticKind, AreStatic};
+ghost use Rattle.event_forms.specs.Forms.{IsBit, AreWords, EventIn, FormIn, IsFixed, IsStaticKind, AreStatic};
 
 use actions::{Bytes, Cells, Object, Store};
 use c_values::pointer_to;
-use guarded_ssa::{Event, EventKind, Nodes, ThreadForm};
+use event_forms::{Event, EventKind, Nodes, ThreadForm};
 use mem_seq::sequential;
 use points_to::Sets;
 use std::alloc::{AllocError, Global};

@@ -1,5 +1,5 @@
 -- The words that answer a read, made one by one, and their bytes.
-use Rattle.std.proofs.Common.{◌≡◌, ℕ, zero, suc, ◌+◌, ◌-◌, ◌*◌, ◌/◌, ◌<◌, ◌≤◌, List, [], ◌∷◌, ◌++◌, length, map, drop, get_or, refl, sym, ap, subst, ◌∙◌, arith, append_assoc}
+use Rattle.std.proofs.Common.{◌≡◌, ℕ, zero, suc, ◌+◌, ◌-◌, ◌*◌, ◌<◌, ◌≤◌, List, [], ◌∷◌, ◌++◌, length, map, drop, get_or, sym, ap, subst, ◌∙◌, arith, append_assoc}
 use Rattle.std.specs.Prelude.{min}
 use Rattle.std.specs.List.{All}
 use Rattle.std.proofs.Math.Seq.{drop-cons}
@@ -15,11 +15,12 @@ use Rattle.word_dag.specs.Growth.{Within, Extends, Makes}
 use Rattle.word_dag.proofs.Grown.{extends_itself, extends_more, all_within_stays, map_stays, map_widths_stay}
 use Rattle.value_nodes.specs.Values.{IsWord, AreBytes}
 use Rattle.value_nodes.specs.Bytes.{AreBytesOf}
-use Rattle.guarded_ssa.specs.Runs.{bytes_of_words, word_widths}
+use Rattle.event_forms.specs.Runs.{bytes_of_words, word_widths}
 use Rattle.guarded_ssa.specs.inner.Answers.{words_by}
-use Rattle.guarded_ssa.specs.Forms.{AreWords}
-use Rattle.guarded_ssa.proofs.WordBytes.{min_rest, words_enough, low_count}
-use Rattle.guarded_ssa.proofs.Stays.{word_stays}
+use Rattle.event_forms.specs.Forms.{AreWords}
+use Rattle.event_forms.proofs.WordBytes.{min_rest, words_enough, low_count}
+use Rattle.event_forms.proofs.ReadWords.{words_length}
+use Rattle.event_forms.proofs.Stays.{word_stays}
 
 push_front : {X : Type 0} (xs : List X) (x : X) (ys : List X) → (xs ++ x ∷ []) ++ ys ≡ xs ++ (x ∷ ys)
 push_front xs x ys = append_assoc xs (x ∷ []) ys
@@ -33,10 +34,6 @@ none_left n k h = omega (arith, h)
 
 behind : (n k : ℕ) → n - 8 * k - 8 ≡ n - 8 * (k + 1)
 behind n k = omega arith
-
--- where words are still to come, bytes are left
-pub bytes_left : (count k left : ℕ) → left ≡ count - 8 * k → k < word_count count → 1 ≤ left
-bytes_left count k left is h = (let lt : k < (count + 7) / 8 = h in omega (arith, lt, is))
 
 -- ---- words
 
@@ -102,19 +99,12 @@ module _ (d e : List Node) (place count k variable left : ℕ) (words : List Id)
 
 -- ---- the bytes of words
 
-widths_length : (n left : ℕ) → length (word_widths n left) ≡ n
-widths_length zero left = refl
-widths_length (suc n) left = ap suc (widths_length n (left - 8))
-
 width_at : (n left k z : ℕ) → k < n → get_or (word_widths n left) k z ≡ 8 * min 8 (left - 8 * k)
 width_at zero left k z lt = absurd (omega (arith, lt))
 width_at (suc n) left zero z lt = let all : left ≡ left - 8 * 0 = omega arith in ap (λ m. 8 * min 8 m) all
 width_at (suc n) left (suc k) z lt =
     let same : left - 8 - 8 * k ≡ left - 8 * suc k = omega arith in
     width_at n (left - 8) k z (omega (arith, lt)) ∙ ap (λ m. 8 * min 8 m) same
-
-pub words_length : (d : List Node) (count : ℕ) (words : List Id) → AreWords d count words → length words ≡ word_count count
-words_length d count words h = sym (length-map words (width d)) ∙ ap length h.widths ∙ widths_length (word_count count) count
 
 -- the bytes of so many words are made, and those of the others are left
 pub record Unpacking (d e : List Node) (count k left : ℕ) (words bytes : List Id) : Type 0 where

@@ -14,11 +14,12 @@ use Rattle.goto_prog.specs.CodeThread.{Listing}
 use Rattle.guarded_ssa.specs.declared.slots.Slot.{Slot}
 use Rattle.guarded_ssa.specs.declared.pass.Pass.{Pass}
 use Rattle.guarded_ssa.specs.inner.Places.{Arrivals, either, arrived}
-use Rattle.guarded_ssa.specs.Forms.{FormIn, EventIn}
+use Rattle.event_forms.specs.Forms.{FormIn, EventIn}
 use Rattle.guarded_ssa.specs.inner.Reads.{Alike, AllAlike}
 use Rattle.guarded_ssa.specs.inner.Held.{SlotIn, PendingIn, PassIn, Arrives, guarded, arrival, arrivals}
 use Rattle.guarded_ssa.proofs.Needs.{all_alike_itself}
-use Rattle.guarded_ssa.proofs.Stays.{form_stays, all_pending_stay, arrivals_stay}
+use Rattle.event_forms.proofs.Stays.{form_stays}
+use Rattle.guarded_ssa.proofs.Stays.{all_pending_stay, arrivals_stay}
 
 -- one of the arrivals is changed into one that is like what arrives
 alike_set : (registers : ℕ) (until : List ℕ) (p q n : ℕ) (ws : Arrivals) (x y z : Option Memory) → q ≡ p + n → n < length ws → Alike registers until q x (either y (get_or ws n z)) → AllAlike registers until p (slice_set ws n x) (arrived n y ws)

@@ -18,9 +18,9 @@ use Rattle.cell_trees.specs.Trees.{Arena, looked}
 use Rattle.goto_prog.specs.CodeThread.{Listing}
 use Rattle.goto_prog.specs.Meaning.{Memory, with_blocks, word_of}
 use Rattle.guarded_ssa.specs.declared.slots.Slot.{Slot}
-use Rattle.guarded_ssa.specs.Runs.{bytes_of_words}
-use Rattle.guarded_ssa.specs.Arrivals.{asked}
-use Rattle.guarded_ssa.specs.Forms.{draws_seen}
+use Rattle.event_forms.specs.Runs.{bytes_of_words}
+use Rattle.event_forms.specs.Arrivals.{asked}
+use Rattle.event_forms.specs.Forms.{draws_seen}
 use Rattle.guarded_ssa.specs.inner.Answers.{words_by, answer_at}
 use Rattle.guarded_ssa.specs.inner.Places.{drawn, drawn_into}
 use Rattle.guarded_ssa.specs.inner.Registers.{bytes_from}
@@ -28,7 +28,8 @@ use Rattle.guarded_ssa.specs.inner.Held.{total, held}
 use Rattle.guarded_ssa.specs.inner.Results.{first_bytes_drawn, filled_first}
 use Rattle.guarded_ssa.proofs.CellWords.{all_words}
 use Rattle.guarded_ssa.proofs.Blocks.{block_length}
-use Rattle.guarded_ssa.proofs.WordBytes.{low_bytes_of_low, low_count, words_size, words_enough}
+use Rattle.event_forms.proofs.WordBytes.{low_bytes_of_low, low_count, words_enough}
+use Rattle.guarded_ssa.proofs.VariableWords.{words_size}
 
 -- ---- what is told
 

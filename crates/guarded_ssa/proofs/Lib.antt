@@ -1,5 +1,5 @@
 pub mod Telling
-pub mod WordBytes
+pub mod VariableWords
 pub mod Valuations
 pub mod Needs
 pub mod CellWords
@@ -16,9 +16,6 @@ pub mod Passing
 pub mod Writing
 pub mod Visiting
 pub mod Ranged
-pub mod Behind
-pub mod Told
-pub mod Accesses
 pub mod Sizes
 pub mod Filling
 pub mod PartLists

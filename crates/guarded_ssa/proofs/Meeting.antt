@@ -20,7 +20,8 @@ use Rattle.cell_trees.proofs.Kept.{keeps_itself, keeps_more}
 use Rattle.guarded_ssa.specs.declared.registers.Zeros.{Zeros}
 use Rattle.guarded_ssa.specs.inner.Registers.{ZerosIn, TreeIn, Merged, is_needed, word_or_0, zero_of}
 use Rattle.guarded_ssa.proofs.CellWords.{if_true, if_false, is_same, are_same}
-use Rattle.guarded_ssa.proofs.Stays.{word_stays, cell_stays}
+use Rattle.event_forms.proofs.Stays.{word_stays}
+use Rattle.guarded_ssa.proofs.Stays.{cell_stays}
 
 pub zero_is : (d : List Node) (z : Zeros) (t : IntegerType) → ZerosIn d z → IsValue d (zero_of z t) (type_width t) (λ v. 0)
 zero_is d z types.Bool h = h.byte

@@ -22,7 +22,7 @@ use Rattle.goto_prog.specs.Running.{is_exchange}
 use Rattle.std.proofs.lemmas.Bool.{false≢true}
 use Rattle.goto_prog.specs.Meaning.{Memory, register, with_register, with_blocks, bytes_of, taken_at, put_within, first_count, word_of, bytes_in, size_in, number_in, check_class, calculated, action_of, answered_with, return_check}
 use Rattle.guarded_ssa.specs.inner.Answers.{answer_at, variables_of}
-use Rattle.guarded_ssa.specs.Arrivals.{asked, stopped}
+use Rattle.event_forms.specs.Arrivals.{asked, stopped}
 use Rattle.guarded_ssa.specs.inner.Places.{Arrivals, either, arrived, updated, kept, on, breaks, drawn, drawn_into, exchanged, behind, tells, leaves, first_arrival, later_arrivals, told}
 use Rattle.guarded_ssa.specs.inner.Reads.{IsRead, AreRead, Covers, Agree, Alike, AllAlike}
 

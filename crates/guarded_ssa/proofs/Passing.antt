@@ -23,7 +23,7 @@ use Rattle.word_dag.specs.Meaning.{value, holds}
 use Rattle.word_dag.specs.Growth.{Within, Extends, Makes}
 use Rattle.word_dag.proofs.Grown.{extends_itself, extends_more, within_stays, map_stays}
 use Rattle.value_nodes.specs.Bytes.{AreBytesOf}
-use Rattle.guarded_ssa.specs.Runs.{bytes_of_words}
+use Rattle.event_forms.specs.Runs.{bytes_of_words}
 use Rattle.guarded_ssa.specs.inner.Answers.{words_by, answer_at}
 use Rattle.value_nodes.specs.Values.{IsWord, IsValue, IsTest, AreBytes}
 use Rattle.goto_prog.specs.declared.code.Condition.{Condition}
@@ -43,14 +43,14 @@ use Rattle.goto_prog.specs.CodeThread.{Listing}
 use Rattle.goto_prog.specs.Running.{is_calculation, is_exchange}
 use Rattle.goto_prog.specs.UnrolledCode.{is_flat}
 use Rattle.goto_prog.specs.Static.{is_static}
-use Rattle.guarded_ssa.specs.declared.forms.Event.{Event}
-use Rattle.guarded_ssa.specs.declared.forms.EventKind.TheVariants.{Draw, Fill, Read, Write, Look, Alloc, Die, Free, Exit, Check, Assume}
-use Rattle.guarded_ssa.specs.declared.forms.EventKind.{EventKind}
+use Rattle.event_forms.specs.declared.forms.Event.{Event}
+use Rattle.event_forms.specs.declared.forms.EventKind.TheVariants.{Draw, Fill, Read, Write, Look, Alloc, Die, Free, Exit, Check, Assume}
+use Rattle.event_forms.specs.declared.forms.EventKind.{EventKind}
 use Rattle.guarded_ssa.specs.declared.slots.Slot.{Slot}
 use Rattle.guarded_ssa.specs.declared.pass.Pass.{Pass}
-use Rattle.guarded_ssa.specs.Arrivals.{Seen, asked, stopped}
+use Rattle.event_forms.specs.Arrivals.{Seen, asked, stopped}
 use Rattle.guarded_ssa.specs.inner.Places.{Arrivals, arrived, updated, kept, on, breaks, drawn, drawn_into, exchanged, answered_by, behind, tells, leaves}
-use Rattle.guarded_ssa.specs.Forms.{AreWords, IsBit, KindIn, EventIn, FormIn, IsFixed, IsStaticKind, AreStatic, draws_seen, kind_seen, event_seen, seen}
+use Rattle.event_forms.specs.Forms.{AreWords, IsBit, KindIn, EventIn, FormIn, IsFixed, IsStaticKind, AreStatic, draws_seen, kind_seen, event_seen, seen}
 use Rattle.guarded_ssa.specs.inner.Reads.{AllAlike}
 use Rattle.guarded_ssa.specs.inner.Held.{SlotIn, PendingIn, PassIn, Arrives, Tells, Passes, total, cells, held, stored, guarded, arrivals}
 use Rattle.guarded_ssa.specs.inner.Registers.{ZerosIn, word_or_0, bytes_from}
@@ -58,7 +58,8 @@ use Rattle.guarded_ssa.proofs.CellWords.{registers_set, if_true, if_false, is_be
 use Rattle.guarded_ssa.proofs.Blocks.{bytes_alike, stored_length}
 use Rattle.guarded_ssa.specs.inner.Results.{sets_register, into_of, result_of, class_of, filled_first}
 use Rattle.guarded_ssa.proofs.Needs.{all_alike_itself, all_alike_more, arrived_alike, alike_itself}
-use Rattle.guarded_ssa.proofs.Stays.{slot_stays, guarded_stays, seen_stays, arrivals_stay, all_static_stay}
+use Rattle.event_forms.proofs.Stays.{seen_stays, all_static_stay}
+use Rattle.guarded_ssa.proofs.Stays.{slot_stays, guarded_stays, arrivals_stay}
 use Rattle.guarded_ssa.proofs.Filling.{draws_are, words_fill, held_block, take_least, take_whole}
 use Rattle.std.proofs.lemmas.Bool.{false≢true}
 use Rattle.goto_prog.proofs.Registers.{both, test_below}

@@ -21,7 +21,7 @@ use Rattle.goto_prog.specs.Meaning.{Memory, register, with_blocks, bytes_of, tak
 use Rattle.goto_prog.proofs.Blocks.{within_size}
 use Rattle.goto_prog.proofs.Registers.{both}
 use Rattle.guarded_ssa.specs.declared.slots.Slot.{Slot}
-use Rattle.guarded_ssa.specs.Runs.{bytes_of_words}
+use Rattle.event_forms.specs.Runs.{bytes_of_words}
 use Rattle.guarded_ssa.specs.inner.Places.{updated}
 use Rattle.guarded_ssa.specs.inner.Held.{SlotIn, held, guarded}
 use Rattle.guarded_ssa.specs.inner.Results.{filled_first}

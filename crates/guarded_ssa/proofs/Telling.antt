@@ -21,9 +21,9 @@ use Rattle.goto_prog.specs.Threads.{behaving, ask, final}
 use Rattle.goto_prog.specs.Meaning.{Memory, register, with_blocks, word_of, first_count, check_class, calculated, action_of, answered_with, or_else, at, fills, operates, places}
 use Rattle.goto_prog.proofs.Registers.{both}
 use Rattle.goto_prog.proofs.Blocks.{sizes_put}
-use Rattle.guarded_ssa.specs.Runs.{Run, stops, asks}
+use Rattle.event_forms.specs.Runs.{Run, stops, asks}
 use Rattle.guarded_ssa.specs.inner.Answers.{answer_at, answer_size, variables_of}
-use Rattle.guarded_ssa.specs.Arrivals.{stopped, read}
+use Rattle.event_forms.specs.Arrivals.{stopped, read}
 use Rattle.guarded_ssa.specs.inner.Places.{Arrivals, arrived, breaks, drawn, drawn_into, tells, leaves, told}
 use Rattle.guarded_ssa.proofs.Valuations.{IsEnd, Runs, Fits, fits_lower, fits_same, fits_end, fits_ask}
 use Rattle.guarded_ssa.proofs.Sizes.{Sized, sized_block, sized_calculated, sized_answered}

@@ -18,10 +18,11 @@ use Rattle.actions.specs.Behaviour.{Behaviour, nothing, size, number, value, sha
 use Rattle.actions.specs.LocalRun.{Exchange, IsLocalRun}
 use Rattle.c_values.specs.Variables.{word_count}
 use Rattle.goto_prog.specs.Threads.{ask, final}
-use Rattle.guarded_ssa.specs.Runs.{Run, stops, asks, bytes_of_words}
+use Rattle.event_forms.specs.Runs.{Run, stops, asks, bytes_of_words}
 use Rattle.guarded_ssa.specs.inner.Answers.{words_by, answer_at, answer_size}
-use Rattle.guarded_ssa.specs.Forms.{Begins}
-use Rattle.guarded_ssa.proofs.WordBytes.{number_is, words_are_bytes, words_size, words_enough, words_by_same, words_give}
+use Rattle.event_forms.specs.Forms.{Begins}
+use Rattle.event_forms.proofs.WordBytes.{number_is, words_are_bytes, words_enough}
+use Rattle.guarded_ssa.proofs.VariableWords.{words_size, words_by_same, words_give}
 
 -- nothing is done next
 abbrev pub IsEnd : Next → Type 0

@@ -20,15 +20,15 @@ use Rattle.c_types.specs.declared.integers.IntegerType.{IntegerType}
 use Rattle.goto_prog.specs.Threads.{behaving}
 use Rattle.cell_trees.specs.Trees.{Arena}
 use Rattle.goto_prog.specs.CodeThread.{Listing, first_memory}
-use Rattle.guarded_ssa.specs.declared.forms.Event.{Event}
+use Rattle.event_forms.specs.declared.forms.Event.{Event}
 use Rattle.guarded_ssa.specs.declared.slots.Slot.{Slot}
 use Rattle.guarded_ssa.specs.declared.pass.Pass.{Pass}
-use Rattle.guarded_ssa.specs.Runs.{stops}
+use Rattle.event_forms.specs.Runs.{stops}
 use Rattle.guarded_ssa.specs.inner.Answers.{variables_of}
-use Rattle.guarded_ssa.specs.Arrivals.{read}
+use Rattle.event_forms.specs.Arrivals.{read}
 use Rattle.guarded_ssa.specs.inner.Places.{Arrivals, arrived, on, tells, told}
 use Rattle.actions.specs.Objects.{Objects}
-use Rattle.guarded_ssa.specs.Forms.{Form, FormIn, IsForm, AreForms, AreStatic, AreStaticForms, run_read, seen}
+use Rattle.event_forms.specs.Forms.{Form, FormIn, IsForm, AreForms, AreStatic, AreStaticForms, run_read, seen}
 use Rattle.guarded_ssa.specs.inner.Reads.{Covers}
 use Rattle.guarded_ssa.specs.inner.Held.{SlotIn, PendingIn, PassIn, Passes, Visits, guarded, arrival, arrivals}
 use Rattle.guarded_ssa.proofs.Telling.{Nowhere, leaves_none, tells_all}

@@ -1,9 +1,1 @@
-pub mod Runs
-pub mod Arrivals
-pub mod Forms
-pub mod Happenings
-pub mod Goals
-pub mod Accesses
-pub mod Turns
-pub mod Formulas
 pub mod inner

@@ -6,9 +6,9 @@ ghost use Rattle.c_values.specs.Variables.{word_count};
 ghost use Rattle.word_dag.specs.Growth.{Extends};
 ghost use Rattle.word_dag.specs.Meaning.{value};
 ghost use Rattle.value_nodes.specs.Bytes.{AreBytesOf};
-ghost use Rattle.guarded_ssa.specs.Runs.{bytes_of_words};
+ghost use Rattle.event_forms.specs.Runs.{bytes_of_words};
 ghost use Rattle.guarded_ssa.specs.inner.Answers.{words_by, variables_of};
-ghost use Rattle.guarded_ssa.specs.Forms.{AreWords};
+ghost use Rattle.event_forms.specs.Forms.{AreWords};
 
 use c_values::word_count;
 use goto_prog::Operation;

@@ -6,10 +6,10 @@ ghost use Rattle.goto_prog.specs.CodeThread.{first_memory};
 ghost use Rattle.goto_prog.specs.Flat.{main_code, plain_thread};
 ghost use Rattle.goto_prog.specs.Static.{is_static_code};
 ghost use Rattle.guarded_ssa.specs.inner.Places.{told};
-ghost use Rattle.guarded_ssa.specs.Forms.{FormIn, AreForms, AreStatic, AreStaticForms, seen};
+ghost use Rattle.event_forms.specs.Forms.{FormIn, AreForms, AreStatic, AreStaticForms, seen};
 
 use crate::answers::variables_of;
-use crate::forms::{Event, ThreadForm};
+use event_forms::{Event, ThreadForm};
 use crate::liveness::Plan;
 use crate::pass::Pass;
 use goto_prog::{Code, Unrolled};

@@ -36,17 +36,17 @@ ghost use Rattle.goto_prog.specs.Fitting.{is_there, is_pointer, check_fits, oper
 ghost use Rattle.c_values.specs.Variables.{pointer_to, word_count};
 ghost use Rattle.value_nodes.specs.Values.{IsWord, IsValue};
 ghost use Rattle.value_nodes.specs.Bytes.{AreBytesOf};
-ghost use Rattle.guarded_ssa.specs.Runs.{bytes_of_words};
+ghost use Rattle.event_forms.specs.Runs.{bytes_of_words};
 ghost use Rattle.guarded_ssa.specs.inner.Answers.{words_by, variables_of};
 ghost use Rattle.goto_prog.specs.Running.{is_calculation};
 ghost use Rattle.goto_prog.specs.UnrolledCode.{is_flat};
-ghost use Rattle.guarded_ssa.specs.Forms.{EventIn, AreWords, IsFixed};
+ghost use Rattle.event_forms.specs.Forms.{EventIn, AreWords, IsFixed};
 ghost use Rattle.goto_prog.specs.CodeThread.{first_memory};
 ghost use Rattle.guarded_ssa.specs.inner.Held.{SlotIn, PassIn, Arrives, Tells, Visits, IsPlan, arrivals};
 ghost use Rattle.guarded_ssa.specs.inner.Conditions.{Reached, PassesHere};
 
 use crate::answers::{answer_words, bytes_of_words};
-use crate::forms::{Event, EventKind, Nodes};
+use event_forms::{Event, EventKind, Nodes};
 use crate::liveness::Plan;
 use crate::parts::at_most;
 use crate::slots::Slot;

@@ -26,7 +26,7 @@ use Rattle.interleave.specs.Own.{next_word, counted}
 use Rattle.interleave.specs.World.{World, Member, first_common}
 use Rattle.interleave.specs.Turn.{turn, settled, with_next, check_of}
 use Rattle.interleave.specs.Run.{run}
-use Rattle.guarded_ssa.specs.Happenings.{Happening, does, fails, action_happens, next_happens, happens, before, happened}
+use Rattle.event_forms.specs.Happenings.{Happening, does, fails, action_happens, next_happens, happens, before, happened}
 
 pub not_below : (t : ℕ) → nat_lt (suc t) 0 ≡ false
 not_below t = grind (arith, nat_tests)

@@ -36,19 +36,19 @@ use Rattle.interleave.specs.World.{World, first_world, no_counts}
 use Rattle.interleave.specs.Turn.{turn, check_of}
 use Rattle.interleave.specs.Run.{run, unless_broken}
 use Rattle.interleave.specs.Replay.{Replays, IsDrawnWhole, MovesTo, used_by}
-use Rattle.guarded_ssa.specs.declared.forms.Event.{Event}
-use Rattle.guarded_ssa.specs.declared.forms.EventKind.{EventKind}
-use Rattle.guarded_ssa.specs.declared.forms.EventKind.TheVariants as kinds
-use Rattle.guarded_ssa.specs.Runs.{Run, stops, asks}
-use Rattle.guarded_ssa.specs.Arrivals.{Seen, stopped, read}
-use Rattle.guarded_ssa.specs.Forms.{kind_seen, event_seen, seen, run_read, Begins, IsForm, EventIn, KindIn, FormIn, IsStaticKind, AreStatic}
-use Rattle.guarded_ssa.proofs.Stays as kept
-use Rattle.guarded_ssa.specs.Accesses.{AreObjects, access_class, is_given, stored_by, unless, checked, agrees}
-use Rattle.guarded_ssa.specs.Happenings.{Happening, does, fails, happens, before, happened, AreDrawn, check_in}
-use Rattle.guarded_ssa.specs.Goals.{Happens}
-use Rattle.guarded_ssa.specs.Turns.{is_break, breaks, drawn_words, inputs_for, turns, broken_check, end_happens, happenings}
-use Rattle.guarded_ssa.proofs.Accesses.{read_class, read_stored, read_given, read_holds, write_class, write_stored, write_given, draw_given}
-use Rattle.guarded_ssa.proofs.Told.{turns_told, check_told, words_told, others_draw, are_drawn}
+use Rattle.event_forms.specs.declared.forms.Event.{Event}
+use Rattle.event_forms.specs.declared.forms.EventKind.{EventKind}
+use Rattle.event_forms.specs.declared.forms.EventKind.TheVariants as kinds
+use Rattle.event_forms.specs.Runs.{Run, stops, asks}
+use Rattle.event_forms.specs.Arrivals.{Seen, stopped, read}
+use Rattle.event_forms.specs.Forms.{kind_seen, event_seen, seen, run_read, Begins, IsForm, EventIn, KindIn, FormIn, IsStaticKind, AreStatic}
+use Rattle.event_forms.proofs.Stays as kept
+use Rattle.event_forms.specs.Accesses.{AreObjects, access_class, is_given, stored_by, unless, checked, agrees}
+use Rattle.event_forms.specs.Happenings.{Happening, does, fails, happens, before, happened, AreDrawn, check_in}
+use Rattle.event_forms.specs.Goals.{Happens}
+use Rattle.event_forms.specs.Turns.{is_break, breaks, drawn_words, inputs_for, turns, broken_check, end_happens, happenings}
+use Rattle.event_forms.proofs.Accesses.{read_class, read_stored, read_given, read_holds, write_class, write_stored, write_given, draw_given}
+use Rattle.event_forms.proofs.Told.{turns_told, check_told, words_told, others_draw, are_drawn}
 use Rattle.mem_seq.proofs.Stores.{left_true, right_true, same_itself, bytes_same, bytes_fit, write_leaves}
 use Rattle.mem_seq.proofs.Alone.{alone, given, other_turn, own_turn, draw_turn, exit_turn, turned_by, after_read, after_told, read_turn, write_turn, over_fine, given_fits, not_below, not_zero}
 use Rattle.mem_seq.proofs.Alone.{other_happens, own_happens, draw_happens, read_happens, write_happens, first_happens}

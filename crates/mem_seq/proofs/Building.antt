@@ -21,19 +21,19 @@ use Rattle.interleave.specs.declared.turn.Outcome.TheVariants.{Broken}
 use Rattle.interleave.specs.Inputs.{InputLists}
 use Rattle.interleave.specs.World.{World, first_world, no_counts}
 use Rattle.interleave.specs.Run.{run}
-use Rattle.guarded_ssa.specs.declared.forms.Event.{Event}
-use Rattle.guarded_ssa.specs.declared.forms.EventKind.{EventKind}
-use Rattle.guarded_ssa.specs.Runs.{Run, stops, asks}
-use Rattle.guarded_ssa.specs.Arrivals.{Seen, asked, stopped, read}
-use Rattle.guarded_ssa.specs.Forms.{kind_seen, event_seen, seen, run_read, Begins, Form, IsForm, IsBit, EventIn, KindIn, FormIn, IsStaticKind, AreStatic}
-use Rattle.guarded_ssa.proofs.Stays as kept
-use Rattle.guarded_ssa.specs.declared.formula.Formula.{Formula}
+use Rattle.event_forms.specs.declared.forms.Event.{Event}
+use Rattle.event_forms.specs.declared.forms.EventKind.{EventKind}
+use Rattle.event_forms.specs.Runs.{Run, stops, asks}
+use Rattle.event_forms.specs.Arrivals.{Seen, asked, stopped, read}
+use Rattle.event_forms.specs.Forms.{kind_seen, event_seen, seen, run_read, Begins, Form, IsForm, IsBit, EventIn, KindIn, FormIn, IsStaticKind, AreStatic}
+use Rattle.event_forms.proofs.Stays as kept
+use Rattle.event_forms.specs.declared.formula.Formula.{Formula}
 use Rattle.mem_seq.specs.declared.memory.Note.{Note}
 use Rattle.mem_seq.specs.declared.memory.Note.TheVariants as notes
-use Rattle.guarded_ssa.specs.Accesses.{AreObjects, access_class, is_given, stored_by, unless, checked, agrees, behind}
-use Rattle.guarded_ssa.specs.Turns.{breaks, broken_check}
-use Rattle.guarded_ssa.specs.Happenings.{happened, check_in}
-use Rattle.guarded_ssa.proofs.Behind.{behind_append, store_at, store_next}
+use Rattle.event_forms.specs.Accesses.{AreObjects, access_class, is_given, stored_by, unless, checked, agrees, behind}
+use Rattle.event_forms.specs.Turns.{breaks, broken_check}
+use Rattle.event_forms.specs.Happenings.{happened, check_in}
+use Rattle.event_forms.proofs.Behind.{behind_append, store_at, store_next}
 use Rattle.mem_seq.specs.Goals.{breaks_or, breaks_from}
 use Rattle.mem_seq.specs.declared.chain.Chain.{Chain}
 use Rattle.mem_seq.specs.declared.chain.Part.{Part}
@@ -41,8 +41,8 @@ use Rattle.mem_seq.specs.declared.chain.Part.TheVariants.{Breaks}
 use Rattle.mem_seq.specs.Chains.{with_part, chain_value, ChainIn}
 use Rattle.mem_seq.proofs.Chaining.{chain_stays}
 use Rattle.mem_seq.specs.Notes.{NoteIn, IsNote, AreNotes}
-use Rattle.guarded_ssa.specs.Goals.{Happens, IsGoal}
-use Rattle.guarded_ssa.specs.Formulas.{run_of, told_by, IsFormula, FormulaIn}
+use Rattle.event_forms.specs.Goals.{Happens, IsGoal}
+use Rattle.event_forms.specs.Formulas.{run_of, told_by, IsFormula, FormulaIn}
 use Rattle.mem_seq.proofs.Stores.{left_true, right_true}
 use Rattle.mem_seq.proofs.Breaking.{OnlyQuiet, kind_stays, event_stays, run_stays, form_quiet, told_check, Found, Quiets, found, quiet_ends, begins_break, told_agrees, whole, read_quiet, run_happens}
 

@@ -13,24 +13,24 @@ use Rattle.word_dag.proofs.Grown.{extends_itself, extends_more}
 use Rattle.value_nodes.specs.Values.{IsTest}
 use Rattle.rewritten_nodes.specs.declared.known.Known.{Known}
 use Rattle.rewritten_nodes.specs.Images.{KnownIn, Agrees}
-use Rattle.guarded_ssa.specs.declared.forms.Event.{Event}
-use Rattle.guarded_ssa.specs.Arrivals.{Seen, asked, stopped}
-use Rattle.guarded_ssa.specs.Forms.{event_seen, seen, run_read, EventIn, FormIn, Form, IsForm, IsStaticKind, AreStatic}
-use Rattle.guarded_ssa.proofs.Stays.{all_static_stay}
+use Rattle.event_forms.specs.declared.forms.Event.{Event}
+use Rattle.event_forms.specs.Arrivals.{Seen, asked, stopped}
+use Rattle.event_forms.specs.Forms.{event_seen, seen, run_read, EventIn, FormIn, Form, IsForm, IsStaticKind, AreStatic}
+use Rattle.event_forms.proofs.Stays.{all_static_stay}
 use Rattle.interleave.specs.World.{first_world}
-use Rattle.guarded_ssa.specs.declared.formula.Formula.{Formula}
+use Rattle.event_forms.specs.declared.formula.Formula.{Formula}
 use Rattle.mem_seq.specs.declared.memory.Memory.{Memory}
 use Rattle.mem_seq.specs.declared.memory.Note.{Note}
-use Rattle.guarded_ssa.specs.Accesses.{AreObjects, access_class, is_given, stored_by, checked, agrees, behind}
-use Rattle.guarded_ssa.specs.Turns.{breaks}
+use Rattle.event_forms.specs.Accesses.{AreObjects, access_class, is_given, stored_by, checked, agrees, behind}
+use Rattle.event_forms.specs.Turns.{breaks}
 use Rattle.mem_seq.specs.Goals.{breaks_or, breaks_from, gives}
 use Rattle.mem_seq.specs.Notes.{NoteIn, IsNote, AreNotes}
 use Rattle.mem_seq.specs.Memories.{StandsFor, MemoryIn}
-use Rattle.guarded_ssa.specs.Goals.{IsGoal}
-use Rattle.guarded_ssa.specs.Formulas.{told_by, IsFormula}
+use Rattle.event_forms.specs.Goals.{IsGoal}
+use Rattle.event_forms.specs.Formulas.{told_by, IsFormula}
 use Rattle.mem_seq.proofs.Stores.{left_true, right_true}
 use Rattle.mem_seq.proofs.Breaking.{event_stays, seen_stays}
-use Rattle.guarded_ssa.proofs.Behind.{behind_append, seen_append}
+use Rattle.event_forms.proofs.Behind.{behind_append, seen_append}
 use Rattle.mem_seq.proofs.Building.{note_in_stays, form_in_stays, breaks_append, breaks_read, same_test, breaks_in, is_formula, is_goal}
 use Rattle.mem_seq.proofs.Noted.{notes_push, notes_stay}
 

@@ -22,10 +22,10 @@ use Rattle.word_dag.proofs.Grown.{extends_itself, extends_more, within_stays, al
 use Rattle.value_nodes.specs.Values.{IsWord, IsValue, IsTest, AreBytes}
 use Rattle.value_nodes.specs.Bytes.{sum_of_bytes}
 use Rattle.value_nodes.proofs.Made.{word_stays, word_below}
-use Rattle.guarded_ssa.specs.Runs.{bytes_of_words, word_widths}
-use Rattle.guarded_ssa.specs.Forms.{AreWords}
-use Rattle.guarded_ssa.proofs.AnswerWords.{bytes_left, words_length}
-use Rattle.guarded_ssa.specs.Accesses.{same_bytes}
+use Rattle.event_forms.specs.Runs.{bytes_of_words, word_widths}
+use Rattle.event_forms.specs.Forms.{AreWords}
+use Rattle.event_forms.proofs.ReadWords.{bytes_left, words_length}
+use Rattle.event_forms.specs.Accesses.{same_bytes}
 use Rattle.mem_seq.specs.Memories.{Written, put_from, value_or, byte_of, bytes_by, AreWith, AreIn}
 use Rattle.mem_seq.proofs.Written.{put_same, put_words, are_in_stay, value_or_stays, bytes_seen, if_true, is_less, pointer_is, stands_put, stands_by}
 use Rattle.mem_seq.proofs.WordTests.{more_words}

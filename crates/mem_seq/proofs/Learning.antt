@@ -28,17 +28,17 @@ use Rattle.rewritten_nodes.specs.declared.known.Known.{Known}
 use Rattle.rewritten_nodes.specs.Images.{KnownIn, Agrees}
 use Rattle.rewritten_nodes.specs.Same.{IsSide}
 use Rattle.rewritten_nodes.proofs.Standing.{agrees_stays}
-use Rattle.guarded_ssa.specs.declared.forms.Event.{Event}
-use Rattle.guarded_ssa.specs.declared.forms.EventKind.{EventKind}
-use Rattle.guarded_ssa.specs.declared.forms.EventKind.TheVariants as kinds
-use Rattle.guarded_ssa.specs.Arrivals.{Seen, asked, stopped}
-use Rattle.guarded_ssa.specs.Runs.{bytes_of_words}
-use Rattle.guarded_ssa.specs.Forms.{AreWords, IsBit, KindIn, EventIn, IsFixed, IsStaticKind, kind_seen, event_seen}
-use Rattle.guarded_ssa.proofs.AnswerWords.{bytes_left, words_length}
+use Rattle.event_forms.specs.declared.forms.Event.{Event}
+use Rattle.event_forms.specs.declared.forms.EventKind.{EventKind}
+use Rattle.event_forms.specs.declared.forms.EventKind.TheVariants as kinds
+use Rattle.event_forms.specs.Arrivals.{Seen, asked, stopped}
+use Rattle.event_forms.specs.Runs.{bytes_of_words}
+use Rattle.event_forms.specs.Forms.{AreWords, IsBit, KindIn, EventIn, IsFixed, IsStaticKind, kind_seen, event_seen}
+use Rattle.event_forms.proofs.ReadWords.{bytes_left, words_length}
 use Rattle.actions.specs.declared.action.Action.TheVariants as actions
 use Rattle.actions.specs.declared.action.Answer.TheVariants as answers
-use Rattle.guarded_ssa.specs.Accesses.{same_bytes, is_given}
-use Rattle.guarded_ssa.proofs.Accesses.{read_holds}
+use Rattle.event_forms.specs.Accesses.{same_bytes, is_given}
+use Rattle.event_forms.proofs.Accesses.{read_holds}
 use Rattle.mem_seq.specs.Goals.{gives}
 use Rattle.mem_seq.proofs.Stores.{left_true, right_true}
 use Rattle.mem_seq.proofs.WordTests.{equal_is, more_words}

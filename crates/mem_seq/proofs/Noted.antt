@@ -12,12 +12,12 @@ use Rattle.word_dag.specs.declared.nodes.Node.{Node}
 use Rattle.word_dag.specs.Meaning.{value, holds}
 use Rattle.word_dag.specs.Growth.{Within, Extends}
 use Rattle.word_dag.proofs.Grown.{map_stays}
-use Rattle.guarded_ssa.specs.declared.forms.Event.{Event}
-use Rattle.guarded_ssa.specs.declared.forms.EventKind.{EventKind}
-use Rattle.guarded_ssa.specs.declared.forms.EventKind.TheVariants as kinds
-use Rattle.guarded_ssa.specs.Arrivals.{Seen, stopped}
-use Rattle.guarded_ssa.specs.Runs.{bytes_of_words}
-use Rattle.guarded_ssa.specs.Forms.{kind_seen, event_seen, seen, EventIn, FormIn, IsStaticKind}
+use Rattle.event_forms.specs.declared.forms.Event.{Event}
+use Rattle.event_forms.specs.declared.forms.EventKind.{EventKind}
+use Rattle.event_forms.specs.declared.forms.EventKind.TheVariants as kinds
+use Rattle.event_forms.specs.Arrivals.{Seen, stopped}
+use Rattle.event_forms.specs.Runs.{bytes_of_words}
+use Rattle.event_forms.specs.Forms.{kind_seen, event_seen, seen, EventIn, FormIn, IsStaticKind}
 use Rattle.actions.specs.declared.action.Next.{Next}
 use Rattle.actions.specs.declared.action.Next.TheVariants.{Blocked, Broken}
 use Rattle.mem_seq.specs.declared.memory.Memory.{Memory}
@@ -25,14 +25,14 @@ use Rattle.mem_seq.specs.declared.memory.Note.{Note}
 use Rattle.mem_seq.specs.declared.memory.Note.TheVariants as notes
 use Rattle.actions.specs.declared.action.Action.TheVariants as actions
 use Rattle.actions.specs.declared.action.Answer.TheVariants as answers
-use Rattle.guarded_ssa.specs.Accesses.{access_class, same_bytes, behind}
+use Rattle.event_forms.specs.Accesses.{access_class, same_bytes, behind}
 use Rattle.mem_seq.specs.Goals.{breaks_or, breaks_from}
 use Rattle.mem_seq.specs.Notes.{NoteIn, IsNote, AreNotes}
 use Rattle.mem_seq.specs.Memories.{StandsFor, MemoryIn, written_in}
 use Rattle.mem_seq.proofs.Written.{stands_stay, break_same}
 use Rattle.mem_seq.proofs.Breaking.{event_stays}
-use Rattle.guarded_ssa.proofs.Behind.{behind_append}
-use Rattle.guarded_ssa.proofs.Accesses.{read_class, read_stored, read_given, write_class, write_stored, write_given, draw_given}
+use Rattle.event_forms.proofs.Behind.{behind_append}
+use Rattle.event_forms.proofs.Accesses.{read_class, read_stored, read_given, write_class, write_stored, write_given, draw_given}
 use Rattle.mem_seq.proofs.Building.{note_stays}
 
 -- ---- one event

@@ -18,7 +18,7 @@ use Rattle.actions.specs.Objects.{Objects, object_at, state_at, with_object, cha
 use Rattle.actions.specs.declared.action.Action.TheVariants as actions
 use Rattle.actions.specs.declared.action.Answer.TheVariants as answers
 use Rattle.actions.specs.Behaviour.{has_shape, shape_of}
-use Rattle.guarded_ssa.specs.Accesses.{HoldsBytes, AreObjects, same_bytes}
+use Rattle.event_forms.specs.Accesses.{HoldsBytes, AreObjects, same_bytes}
 
 -- ---- tests
 

@@ -10,9 +10,9 @@ use Rattle.words.proofs.Powers.{pow_split}
 use Rattle.actions.specs.ByteList.{are_bytes}
 use Rattle.c_values.specs.Variables.{low_bytes, zeros}
 use Rattle.value_nodes.specs.Bytes.{sum_of_bytes}
-use Rattle.guarded_ssa.specs.Runs.{bytes_of_words}
-use Rattle.guarded_ssa.proofs.WordBytes.{number_is, number_padded, number_bytes, low_count}
-use Rattle.guarded_ssa.specs.Accesses.{same_bytes}
+use Rattle.event_forms.specs.Runs.{bytes_of_words}
+use Rattle.event_forms.proofs.WordBytes.{number_is, number_padded, number_bytes, low_count}
+use Rattle.event_forms.specs.Accesses.{same_bytes}
 use Rattle.mem_seq.proofs.Stores.{same_itself, bytes_same}
 
 -- ---- the number that bytes are

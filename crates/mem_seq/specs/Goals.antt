@@ -2,9 +2,9 @@
 use Rattle.std.specs.Prelude.{Bool, true, ◌&&◌, List, [], ◌∷◌, Option, Some, None}
 use Rattle.words.specs.declared.check.Class.{Class}
 use Rattle.actions.specs.Objects.{Objects}
-use Rattle.guarded_ssa.specs.Arrivals.{Seen, asked, stopped}
-use Rattle.guarded_ssa.specs.Accesses.{access_class, is_given, stored_by}
-use Rattle.guarded_ssa.specs.Turns.{is_break}
+use Rattle.event_forms.specs.Arrivals.{Seen, asked, stopped}
+use Rattle.event_forms.specs.Accesses.{access_class, is_given, stored_by}
+use Rattle.event_forms.specs.Turns.{is_break}
 
 abbrev pub breaks_or : Option Class → Bool → Bool
 breaks_or None later = later

@@ -3,11 +3,11 @@ use Rattle.std.specs.Prelude.{◌≡◌, ℕ, Bool, true, ◌&&◌, List, [], �
 use Rattle.actions.specs.Objects.{Objects}
 use Rattle.word_dag.specs.declared.nodes.Node.{Node}
 use Rattle.word_dag.specs.Meaning.{value, holds}
-use Rattle.guarded_ssa.specs.declared.forms.Event.{Event}
-use Rattle.guarded_ssa.specs.Forms.{kind_seen, event_seen, IsBit}
+use Rattle.event_forms.specs.declared.forms.Event.{Event}
+use Rattle.event_forms.specs.Forms.{kind_seen, event_seen, IsBit}
 use Rattle.mem_seq.specs.declared.memory.Note.{Note}
 use Rattle.mem_seq.specs.declared.memory.Note.TheVariants as notes
-use Rattle.guarded_ssa.specs.Accesses.{behind}
+use Rattle.event_forms.specs.Accesses.{behind}
 use Rattle.mem_seq.specs.Goals.{breaks_from}
 
 -- the node that it names is a truth value of the graph

@@ -1,15 +1,15 @@
 //! Events over the nodes that stand for theirs, where each read gave what the store held.
 
 ghost use Rattle.std.specs.Prelude.{◌≡◌, ◌+◌, ◌*◌, ◌≤◌, ◌-◌, ℕ, true, All, length, map, take, drop, min, IfOk, OnOk};
-ghost use Rattle.guarded_ssa.specs.Runs.{bytes_of_words};
-ghost use Rattle.guarded_ssa.specs.Forms.{AreWords, KindIn, EventIn, IsStaticKind, kind_seen, event_seen};
-ghost use Rattle.guarded_ssa.specs.Accesses.{same_bytes};
+ghost use Rattle.event_forms.specs.Runs.{bytes_of_words};
+ghost use Rattle.event_forms.specs.Forms.{AreWords, KindIn, EventIn, IsStaticKind, kind_seen, event_seen};
+ghost use Rattle.event_forms.specs.Accesses.{same_bytes};
 ghost use Rattle.rewritten_nodes.specs.Images.{KnownIn, Agrees};
 ghost use Rattle.value_nodes.specs.Values.{IsWord, AreBytes};
 ghost use Rattle.word_dag.specs.Growth.{Within, Extends};
 ghost use Rattle.word_dag.specs.Meaning.{width, value, holds};
 
-use guarded_ssa::{Event, EventKind, Nodes};
+use event_forms::{Event, EventKind, Nodes};
 use rewritten_nodes::Known;
 use std::alloc::{AllocError, Global};
 use value_nodes::{chosen, word_of_bytes};

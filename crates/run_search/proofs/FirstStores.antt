@@ -22,7 +22,7 @@ use Rattle.actions.specs.StoredObject.{StoredObject}
 use Rattle.c_meaning.specs.Source.{target_number, with_addresses, first_object, literal_object, numbered, first_objects, are_small_objects, are_small_literals, are_storable}
 use Rattle.goto_unwind.specs.Places.{places, objects}
 use Rattle.goto_unwind.specs.Counts.{largest, sizes_of_literals, object_bytes, passed}
-use Rattle.guarded_ssa.specs.Accesses.{HoldsBytes, AreObjects}
+use Rattle.event_forms.specs.Accesses.{HoldsBytes, AreObjects}
 use Rattle.report.proofs.Both.{and_both}
 
 zero_bytes : (n : ℕ) → are_bytes (replicate n 0) ≡ true

@@ -9,8 +9,8 @@ use Rattle.interleave.specs.Inputs.{InputLists}
 use Rattle.interleave.specs.World.{World}
 use Rattle.interleave.specs.Run.{run}
 use Rattle.interleave.specs.Replay.{IsSafe}
-use Rattle.guarded_ssa.specs.Happenings.{Happening}
-use Rattle.guarded_ssa.specs.Goals.{IsGoal}
+use Rattle.event_forms.specs.Happenings.{Happening}
+use Rattle.event_forms.specs.Goals.{IsGoal}
 
 module _ (w : World) (d : List Node) (goal : Id) (told : (ℕ → ℕ) → List Happening) (is : IsGoal w d goal told) (none : (v : ℕ → ℕ) → value v d goal ≡ 1 → ⊥) where
   fine_or_broken : (inputs : InputLists) (schedule : List ℕ) (o : Outcome) → (run w inputs schedule).0 ≡ o → o ≡ Fine

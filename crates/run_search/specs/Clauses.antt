@@ -6,11 +6,11 @@ use Rattle.sat_form.specs.Budget.{IsSpent}
 use Rattle.word_dag.specs.declared.nodes.Node.{Node}
 use Rattle.core_tree.specs.Trees.{TypedFile}
 use Rattle.core_tree.specs.Ranges.{Limits}
-use Rattle.guarded_ssa.specs.Forms.{IsForm}
+use Rattle.event_forms.specs.Forms.{IsForm}
 use Rattle.c_meaning.specs.Source.{source_thread}
-use Rattle.guarded_ssa.specs.declared.formula.Formula.{Formula}
-use Rattle.guarded_ssa.specs.Goals.{IsGoal}
-use Rattle.guarded_ssa.specs.Formulas.{told_by, IsFormula, FormulaIn}
+use Rattle.event_forms.specs.declared.formula.Formula.{Formula}
+use Rattle.event_forms.specs.Goals.{IsGoal}
+use Rattle.event_forms.specs.Formulas.{told_by, IsFormula, FormulaIn}
 use Rattle.bit_blast.specs.Steps.{IsBlasted}
 use Rattle.cdcl_core.specs.Answers.{EndsAllowed, unit_count}
 use Rattle.run_search.specs.Executions.{bounded_world}

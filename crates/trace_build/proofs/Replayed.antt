@@ -7,13 +7,13 @@ use Rattle.word_dag.specs.Meaning.{value}
 use Rattle.interleave.specs.Inputs.{InputLists}
 use Rattle.interleave.specs.World.{World}
 use Rattle.interleave.specs.Replay.{Replays}
-use Rattle.guarded_ssa.specs.Forms.{Form}
-use Rattle.guarded_ssa.specs.Happenings.{schedule_in}
-use Rattle.guarded_ssa.specs.Goals.{IsGoal}
-use Rattle.guarded_ssa.specs.Turns.{breaks, drawn_words, inputs_for, broken_check, happenings}
-use Rattle.guarded_ssa.specs.Formulas.{run_of, told_by, inputs_of, schedule_of, check_of}
+use Rattle.event_forms.specs.Forms.{Form}
+use Rattle.event_forms.specs.Happenings.{schedule_in}
+use Rattle.event_forms.specs.Goals.{IsGoal}
+use Rattle.event_forms.specs.Turns.{breaks, drawn_words, inputs_for, broken_check, happenings}
+use Rattle.event_forms.specs.Formulas.{run_of, told_by, inputs_of, schedule_of, check_of}
 use Rattle.trace_build.specs.Walking.{IsEnd}
-use Rattle.guarded_ssa.proofs.Told.{turns_told, check_told, breaks_told, are_drawn}
+use Rattle.event_forms.proofs.Told.{turns_told, check_told, breaks_told, are_drawn}
 
 one_check : (first second : Check) → Some first ≡ Some second → first ≡ second
 one_check first second same = cc

@@ -16,15 +16,15 @@ use Rattle.actions.specs.declared.action.Next.{Next}
 use Rattle.actions.specs.declared.action.Next.TheVariants.{Blocked, Broken}
 use Rattle.word_dag.specs.declared.nodes.Node.{Node}
 use Rattle.word_dag.specs.Meaning.{value, holds}
-use Rattle.guarded_ssa.specs.declared.forms.Event.{Event}
-use Rattle.guarded_ssa.specs.declared.forms.EventKind.{EventKind}
-use Rattle.guarded_ssa.specs.declared.forms.EventKind.TheVariants as kinds
-use Rattle.guarded_ssa.specs.Runs.{bytes_of_words}
-use Rattle.guarded_ssa.specs.Forms.{kind_seen, event_seen, seen, IsStaticKind, AreStatic}
-use Rattle.guarded_ssa.specs.Arrivals.{stopped}
-use Rattle.guarded_ssa.specs.Accesses.{behind}
-use Rattle.guarded_ssa.proofs.Accesses.{read_stored, write_stored}
-use Rattle.guarded_ssa.proofs.Behind.{behind_append}
+use Rattle.event_forms.specs.declared.forms.Event.{Event}
+use Rattle.event_forms.specs.declared.forms.EventKind.{EventKind}
+use Rattle.event_forms.specs.declared.forms.EventKind.TheVariants as kinds
+use Rattle.event_forms.specs.Runs.{bytes_of_words}
+use Rattle.event_forms.specs.Forms.{kind_seen, event_seen, seen, IsStaticKind, AreStatic}
+use Rattle.event_forms.specs.Arrivals.{stopped}
+use Rattle.event_forms.specs.Accesses.{behind}
+use Rattle.event_forms.proofs.Accesses.{read_stored, write_stored}
+use Rattle.event_forms.proofs.Behind.{behind_append}
 use Rattle.trace_build.specs.Walking.{SameStates}
 
 module _ (at : ℕ) (new : List ℕ) (o : StoredObject) where

@@ -16,17 +16,17 @@ use Rattle.actions.specs.declared.action.Answer.TheVariants as answers
 use Rattle.actions.specs.declared.action.Next.TheVariants.{Ended, Blocked, Broken}
 use Rattle.actions.specs.Behaviour.{word_64}
 use Rattle.interleave.specs.Turn.{check_of}
-use Rattle.guarded_ssa.specs.declared.forms.Event.{Event}
-use Rattle.guarded_ssa.specs.declared.forms.EventKind.{EventKind}
-use Rattle.guarded_ssa.specs.declared.forms.EventKind.TheVariants as kinds
-use Rattle.guarded_ssa.specs.Runs.{Run, stops, asks, bytes_of_words}
-use Rattle.guarded_ssa.specs.Arrivals.{Seen, stopped, read}
-use Rattle.guarded_ssa.specs.Forms.{kind_seen, event_seen, seen, run_read}
-use Rattle.guarded_ssa.specs.Accesses.{access_class, stored_by, unless, checked, behind}
-use Rattle.guarded_ssa.specs.Happenings.{words_given}
-use Rattle.guarded_ssa.specs.Turns.{drawn_words, turns}
-use Rattle.guarded_ssa.proofs.Accesses.{read_class, write_class}
-use Rattle.guarded_ssa.proofs.Behind.{store_at, store_next}
+use Rattle.event_forms.specs.declared.forms.Event.{Event}
+use Rattle.event_forms.specs.declared.forms.EventKind.{EventKind}
+use Rattle.event_forms.specs.declared.forms.EventKind.TheVariants as kinds
+use Rattle.event_forms.specs.Runs.{Run, stops, asks, bytes_of_words}
+use Rattle.event_forms.specs.Arrivals.{Seen, stopped, read}
+use Rattle.event_forms.specs.Forms.{kind_seen, event_seen, seen, run_read}
+use Rattle.event_forms.specs.Accesses.{access_class, stored_by, unless, checked, behind}
+use Rattle.event_forms.specs.Happenings.{words_given}
+use Rattle.event_forms.specs.Turns.{drawn_words, turns}
+use Rattle.event_forms.proofs.Accesses.{read_class, write_class}
+use Rattle.event_forms.proofs.Behind.{store_at, store_next}
 use Rattle.trace_build.specs.Walking.{SameStates, IsWalk, IsEnd, WalksOn}
 use Rattle.trace_build.proofs.States.{same_break}
 

@@ -2,8 +2,8 @@
 use Rattle.std.specs.Prelude.{◌≡◌, ℕ, true, List, ◌++◌, Option, Some, None}
 use Rattle.words.specs.declared.check.Check.{Check}
 use Rattle.actions.specs.Objects.{Objects, state_at}
-use Rattle.guarded_ssa.specs.Runs.{Run}
-use Rattle.guarded_ssa.specs.Turns.{breaks, drawn_words, turns, broken_check}
+use Rattle.event_forms.specs.Runs.{Run}
+use Rattle.event_forms.specs.Turns.{breaks, drawn_words, turns, broken_check}
 
 -- stores whose objects are in the same states; their bytes may differ
 abbrev pub SameStates : Objects → Objects → Type 0

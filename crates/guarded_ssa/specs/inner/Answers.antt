@@ -9,7 +9,7 @@ use Rattle.actions.specs.declared.action.Answer.TheVariants as answers
 use Rattle.c_values.specs.Variables.{word_count}
 use Rattle.goto_prog.specs.declared.code.Operation.{Operation}
 use Rattle.goto_prog.specs.declared.code.Operation.TheVariants as operations
-use Rattle.guarded_ssa.specs.Runs.{bytes_of_words}
+use Rattle.event_forms.specs.Runs.{bytes_of_words}
 
 -- the low bits of variables as so many words: the first variable has this number, and the others have the numbers behind it
 abbrev pub words_by : (ℕ → ℕ) → (words variable left : ℕ) → List ℕ

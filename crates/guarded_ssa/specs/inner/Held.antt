@@ -11,7 +11,7 @@ use Rattle.goto_prog.specs.Meaning.{Memory}
 use Rattle.goto_prog.specs.CodeThread.{Listing}
 use Rattle.guarded_ssa.specs.declared.liveness.Plan.{Plan}
 use Rattle.guarded_ssa.specs.declared.slots.Slot.{Slot}
-use Rattle.guarded_ssa.specs.declared.forms.Event.{Event}
+use Rattle.event_forms.specs.declared.forms.Event.{Event}
 use Rattle.guarded_ssa.specs.declared.pass.Pass.{Pass}
 use Rattle.goto_prog.specs.declared.code.Operation.{Operation}
 use Rattle.goto_prog.specs.declared.code.Instruction.{Instruction}
@@ -20,7 +20,7 @@ use Rattle.guarded_ssa.specs.inner.Places.{arrived, on, tells, leaves, told}
 use Rattle.guarded_ssa.specs.inner.Reads.{AllAlike, Covers}
 use Rattle.guarded_ssa.specs.inner.Registers.{ZerosIn, TreeIn, words_from, bytes_from}
 use Rattle.goto_prog.specs.Static.{is_static}
-use Rattle.guarded_ssa.specs.Forms.{FormIn, IsStaticKind, AreStatic, event_seen, seen}
+use Rattle.event_forms.specs.Forms.{FormIn, IsStaticKind, AreStatic, event_seen, seen}
 
 -- how many bytes blocks of these sizes have
 abbrev pub total : List ℕ → ℕ

@@ -10,7 +10,7 @@ use Rattle.goto_prog.specs.declared.code.Operation.TheVariants as operations
 use Rattle.goto_prog.specs.declared.code.Instruction.{Instruction}
 use Rattle.c_values.specs.Variables.{put_bytes, low_bytes, word_count, drawn_count}
 use Rattle.goto_prog.specs.Meaning.{Memory, register, with_blocks, word_of, first_count, check_class, calculated, action_of, answered_with}
-use Rattle.guarded_ssa.specs.Arrivals.{Seen, asked, stopped}
+use Rattle.event_forms.specs.Arrivals.{Seen, asked, stopped}
 use Rattle.guarded_ssa.specs.inner.Answers.{answer_at, variables_of}
 
 -- ---- the places from here on: the memory with which each is reached, if it is

@@ -4,8 +4,8 @@ use Rattle.word_dag.proofs.Grown.{extends_more}
 use Rattle.goto_prog.specs.declared.code.Instruction.{Instruction}
 use Rattle.goto_prog.specs.declared.code.Operation.TheVariants as operations
 use Rattle.goto_prog.specs.CodeThread.{first_memory}
-use Rattle.guarded_ssa.specs.Forms.{AreStatic}
-use Rattle.guarded_ssa.proofs.Stays.{none_static}
+use Rattle.event_forms.specs.Forms.{AreStatic}
+use Rattle.event_forms.proofs.Stays.{none_static}
 use Rattle.guarded_ssa.proofs.Visiting.{started, start_size, fits_in, visits_own, variables_own, variables_next, visited, visited_none, visited_all, static_in}
 use Rattle.guarded_ssa.proofs.forming.events_of.Goals as goal
 

@@ -4,7 +4,7 @@ use Rattle.word_dag.specs.Growth.{Extends}
 use Rattle.goto_prog.specs.CodeThread.{first_memory}
 use Rattle.guarded_ssa.specs.inner.Places.{told}
 use Rattle.goto_prog.specs.Static.{is_static_code}
-use Rattle.guarded_ssa.specs.Forms.{AreStatic, seen}
+use Rattle.event_forms.specs.Forms.{AreStatic, seen}
 use Rattle.guarded_ssa.specs.inner.Held.{PassIn, arrivals}
 use Rattle.guarded_ssa.proofs.forming.events_of.Given as goal
 

@@ -4,7 +4,7 @@ use Rattle.goto_prog.specs.Threads.{behaving}
 use Rattle.goto_prog.specs.CodeThread.{Listing, first_memory}
 use Rattle.goto_prog.specs.Static.{is_static_code}
 use Rattle.goto_prog.proofs.Blocks.{first_sizes}
-use Rattle.guarded_ssa.specs.Forms.{Form, AreForms}
+use Rattle.event_forms.specs.Forms.{Form, AreForms}
 use Rattle.guarded_ssa.proofs.Visiting.{one_form, one_static}
 use Rattle.guarded_ssa.proofs.forming.threads.Goals as goal
 

@@ -1,8 +1,8 @@
 use Rattle.std.proofs.Common.{sym, ap, subst, map, ◌∙◌}
 use Rattle.word_dag.specs.Meaning.{value}
 use Rattle.word_dag.proofs.Grown.{map_stays}
-use Rattle.guarded_ssa.specs.Forms.{AreWords}
-use Rattle.guarded_ssa.proofs.Stays.{words_stay}
+use Rattle.event_forms.specs.Forms.{AreWords}
+use Rattle.event_forms.proofs.Stays.{words_stay}
 use Rattle.guarded_ssa.proofs.pass.read_answer.Goals as goal
 
 pub returns-clause-words : goal.returns-clause-words

@@ -1,5 +1,6 @@
 use Rattle.std.proofs.Common.{arith}
-use Rattle.guarded_ssa.proofs.Stays.{word_stays, zeros_stay, tree_stays}
+use Rattle.event_forms.proofs.Stays.{word_stays}
+use Rattle.guarded_ssa.proofs.Stays.{zeros_stay, tree_stays}
 use Rattle.guarded_ssa.proofs.Meeting.{joining_either, joining_next, joined_all}
 use Rattle.guarded_ssa.proofs.registers.merged.Goals as goal
 

@@ -1,8 +1,8 @@
 use Rattle.std.proofs.Common.{List, ap, subst, sym, ◌∙◌}
 use Rattle.word_dag.proofs.Grown.{extends_more}
 use Rattle.rewritten_nodes.proofs.Standing.{agrees_stays}
-use Rattle.guarded_ssa.specs.Arrivals.{Seen}
-use Rattle.guarded_ssa.specs.Accesses.{behind}
+use Rattle.event_forms.specs.Arrivals.{Seen}
+use Rattle.event_forms.specs.Accesses.{behind}
 use Rattle.mem_seq.specs.Goals.{gives}
 use Rattle.mem_seq.specs.Memories.{StandsFor, written_in}
 use Rattle.mem_seq.proofs.Written.{stands_stay}

@@ -3,7 +3,7 @@ use Rattle.std.specs.List.{list_all}
 use Rattle.actions.specs.ByteList.{are_bytes}
 use Rattle.core_tree.specs.Trees.{CoreFile, view_literals, view_core}
 use Rattle.c_meaning.specs.Source.{first_objects}
-use Rattle.guarded_ssa.specs.Accesses.{AreObjects}
+use Rattle.event_forms.specs.Accesses.{AreObjects}
 use Rattle.run_search.proofs.FirstStores.{file_holds}
 use Rattle.run_search.proofs.searching.prove_objects.Goals as goal
 

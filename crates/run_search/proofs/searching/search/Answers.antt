@@ -5,9 +5,9 @@ use Rattle.actions.specs.Objects.{Objects}
 use Rattle.word_dag.specs.declared.nodes.Node.{Node}
 use Rattle.interleave.specs.World.{first_world}
 use Rattle.c_meaning.specs.Source.{source_thread, source_world, first_objects}
-use Rattle.guarded_ssa.specs.declared.formula.Formula.{Formula}
-use Rattle.guarded_ssa.specs.Goals.{IsGoal}
-use Rattle.guarded_ssa.specs.Formulas.{told_by, IsFormula}
+use Rattle.event_forms.specs.declared.formula.Formula.{Formula}
+use Rattle.event_forms.specs.Goals.{IsGoal}
+use Rattle.event_forms.specs.Formulas.{told_by, IsFormula}
 use Rattle.run_search.specs.Searches.{IsSolved}
 use Rattle.run_search.proofs.Formulas.{safe_without}
 use Rattle.run_search.proofs.searching.search.Goals as goal

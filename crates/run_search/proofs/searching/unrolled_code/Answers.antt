@@ -1,7 +1,7 @@
 use Rattle.std.proofs.Common.{◌≡◌, ◌≤◌, true, sym, ◌∙◌, subst, arith}
 use Rattle.core_tree.specs.Ranges.{is_unwinding}
 use Rattle.core_tree.specs.Trees.{view_core}
-use Rattle.guarded_ssa.specs.Accesses.{AreObjects}
+use Rattle.event_forms.specs.Accesses.{AreObjects}
 use Rattle.run_search.proofs.CountedObjects.{is_bound, no_more}
 use Rattle.run_search.proofs.FirstStores.{storable}
 use Rattle.run_search.proofs.StartsNone.{none_start}

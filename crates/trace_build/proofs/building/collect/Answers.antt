@@ -3,11 +3,11 @@ use Rattle.std.specs.Prelude.{Option}
 use Rattle.std.proofs.lemmas.List.Elements.{All-take}
 use Rattle.words.specs.declared.check.Check.{Check}
 use Rattle.word_dag.specs.Meaning.{valuation_of}
-use Rattle.guarded_ssa.specs.declared.forms.Event.{Event}
-use Rattle.guarded_ssa.specs.Forms.{seen, run_read, IsStaticKind}
-use Rattle.guarded_ssa.specs.Accesses.{checked}
-use Rattle.guarded_ssa.specs.Formulas.{run_of}
-use Rattle.guarded_ssa.proofs.Behind.{store_at}
+use Rattle.event_forms.specs.declared.forms.Event.{Event}
+use Rattle.event_forms.specs.Forms.{seen, run_read, IsStaticKind}
+use Rattle.event_forms.specs.Accesses.{checked}
+use Rattle.event_forms.specs.Formulas.{run_of}
+use Rattle.event_forms.proofs.Behind.{store_at}
 use Rattle.trace_build.specs.Walking.{SameStates, WalksOn}
 use Rattle.trace_build.proofs.States.{states_stay}
 use Rattle.trace_build.proofs.Walks.{walk_here, walk_next}

@@ -1,9 +1,9 @@
 use Rattle.std.proofs.Common.{drop}
 use Rattle.word_dag.specs.Meaning.{valuation_of}
-use Rattle.guarded_ssa.specs.Forms.{run_read}
-use Rattle.guarded_ssa.specs.Accesses.{checked}
-use Rattle.guarded_ssa.specs.Formulas.{run_of}
-use Rattle.guarded_ssa.proofs.Behind.{store_at}
+use Rattle.event_forms.specs.Forms.{run_read}
+use Rattle.event_forms.specs.Accesses.{checked}
+use Rattle.event_forms.specs.Formulas.{run_of}
+use Rattle.event_forms.proofs.Behind.{store_at}
 use Rattle.trace_build.specs.Walking.{IsWalk}
 use Rattle.trace_build.proofs.building.collect.Given as goal
 

@@ -2,9 +2,10 @@ use Rattle.std.proofs.Common.{ℕ, List, refl, sym, ap, subst}
 use Rattle.std.specs.Prelude.{slice_index}
 use Rattle.word_dag.proofs.Grown.{extends_more}
 use Rattle.goto_prog.proofs.Registers.{test_below}
-use Rattle.guarded_ssa.specs.Forms.{AreWords}
+use Rattle.event_forms.specs.Forms.{AreWords}
 use Rattle.guarded_ssa.specs.declared.pass.Pass.{Pass}
-use Rattle.guarded_ssa.proofs.Stays.{pass_moves, slot_grows, word_stays, words_stay}
+use Rattle.event_forms.proofs.Stays.{word_stays, words_stay}
+use Rattle.guarded_ssa.proofs.Stays.{pass_moves, slot_grows}
 use Rattle.guarded_ssa.proofs.Passing.{passes_filled, event_in}
 use Rattle.guarded_ssa.proofs.pass.Pass.fill.Goals as goal
 

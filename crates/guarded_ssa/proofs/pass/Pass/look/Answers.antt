@@ -1,7 +1,8 @@
 use Rattle.std.proofs.Common.{refl}
 use Rattle.guarded_ssa.specs.declared.pass.Pass.{Pass}
 use Rattle.word_dag.proofs.Grown.{extends_more}
-use Rattle.guarded_ssa.proofs.Stays.{pass_moves, slot_grows, word_stays}
+use Rattle.event_forms.proofs.Stays.{word_stays}
+use Rattle.guarded_ssa.proofs.Stays.{pass_moves, slot_grows}
 use Rattle.guarded_ssa.proofs.Passing.{passes_look, event_in, drawn_word}
 use Rattle.guarded_ssa.proofs.pass.Pass.look.Goals as goal
 

@@ -3,7 +3,8 @@ use Rattle.std.proofs.lemmas.Bool.{false≢true}
 use Rattle.actions.specs.declared.action.Action.TheVariants as actions
 use Rattle.guarded_ssa.specs.declared.pass.Pass.{Pass}
 use Rattle.word_dag.proofs.Grown.{extends_itself}
-use Rattle.guarded_ssa.proofs.Stays.{pass_moves, slot_grows, word_stays}
+use Rattle.event_forms.proofs.Stays.{word_stays}
+use Rattle.guarded_ssa.proofs.Stays.{pass_moves, slot_grows}
 use Rattle.guarded_ssa.proofs.Passing.{passes_read, event_in, same_bytes_of}
 use Rattle.guarded_ssa.proofs.pass.Pass.read.Goals as goal
 

@@ -2,7 +2,8 @@ use Rattle.std.proofs.Common.{refl, sym, ap}
 use Rattle.actions.specs.declared.action.Action.TheVariants as actions
 use Rattle.guarded_ssa.specs.declared.pass.Pass.{Pass}
 use Rattle.word_dag.proofs.Grown.{extends_more}
-use Rattle.guarded_ssa.proofs.Stays.{pass_moves, slot_grows, word_stays, fixed_stays}
+use Rattle.event_forms.proofs.Stays.{word_stays, fixed_stays}
+use Rattle.guarded_ssa.proofs.Stays.{pass_moves, slot_grows}
 use Rattle.guarded_ssa.proofs.Passing.{passes_read, event_in, same_bytes_of}
 use Rattle.guarded_ssa.proofs.pass.Pass.read_object.Goals as goal
 

@@ -1,8 +1,8 @@
 use Rattle.std.proofs.Common.{true, false, length, map, subst, sym, ◌∙◌}
 use Rattle.word_dag.specs.Meaning.{value}
 use Rattle.actions.specs.Objects.{with_bytes}
-use Rattle.guarded_ssa.specs.Forms.{KindIn}
-use Rattle.guarded_ssa.specs.declared.forms.EventKind.TheVariants as kinds
+use Rattle.event_forms.specs.Forms.{KindIn}
+use Rattle.event_forms.specs.declared.forms.EventKind.TheVariants as kinds
 use Rattle.mem_seq.proofs.Noted.{read_note, no_break, write_leaves, written_kind, stands_written}
 use Rattle.mem_seq.proofs.memory.Memory.note.Goals as goal
 

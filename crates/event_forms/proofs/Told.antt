@@ -6,9 +6,9 @@ use Rattle.words.specs.declared.check.Check.{Check}
 use Rattle.actions.specs.declared.action.Next.{Next}
 use Rattle.actions.specs.declared.action.Next.TheVariants.{Act, Ended, Blocked, Broken}
 use Rattle.interleave.specs.Inputs.{words_of}
-use Rattle.guarded_ssa.specs.Runs.{Run, stops, asks}
-use Rattle.guarded_ssa.specs.Happenings.{schedule_in, words_given, words_drawn, AreDrawn, check_in}
-use Rattle.guarded_ssa.specs.Turns.{is_break, breaks, drawn_words, inputs_for, turns, end_check, broken_check, end_happens, happenings}
+use Rattle.event_forms.specs.Runs.{Run, stops, asks}
+use Rattle.event_forms.specs.Happenings.{schedule_in, words_given, words_drawn, AreDrawn, check_in}
+use Rattle.event_forms.specs.Turns.{is_break, breaks, drawn_words, inputs_for, turns, end_check, broken_check, end_happens, happenings}
 
 end_turn : (end : Next) → is_break end ≡ true → schedule_in (end_happens end) ≡ 0 ∷ []
 end_turn (Act action line f) broken = absurd (true≢false (sym broken))

@@ -1,5 +1,5 @@
 -- What the actions of the one thread of a file do with the store, by the table of actions, and the run as the store lets it go.
-use Rattle.std.specs.Prelude.{◌≡◌, ℕ, Bool, true, false, ◌&&◌, ◌==◌, List, [], ◌∷◌, length, All, Option, Some, None}
+use Rattle.std.specs.Prelude.{◌≡◌, ◌<◌, ◌^◌, ℕ, suc, Bool, true, false, ◌&&◌, ◌==◌, List, [], ◌∷◌, length, All, Option, Some, None}
 use Rattle.words.specs.declared.check.Class.{Class}
 use Rattle.actions.specs.ByteList.{are_bytes}
 use Rattle.actions.specs.StoredObject.{StoredObject}
@@ -12,33 +12,51 @@ use Rattle.actions.specs.declared.action.Answer.{Answer}
 use Rattle.actions.specs.declared.action.Answer.TheVariants.{Done, Bytes, Size, Word, Number, Value}
 use Rattle.actions.specs.declared.action.Next.TheVariants.{Broken}
 use Rattle.interleave.specs.World.{first_common}
-use Rattle.guarded_ssa.specs.Runs.{Run, stops, asks}
-use Rattle.guarded_ssa.specs.Arrivals.{Seen, asked, stopped}
+use Rattle.event_forms.specs.Runs.{Run, stops, asks}
+use Rattle.event_forms.specs.Arrivals.{Seen, asked, stopped}
 
--- each object of a store has as many bytes as its size says
+-- each object of a store has as many bytes as its size says, which 32 bits tell
 pub record HoldsBytes (o : StoredObject) : Type 0 where
   pub whole : length o.bytes ≡ o.size
+  pub small : o.size < 2 ^ 32
   pub bytes : are_bytes o.bytes ≡ true
 
 abbrev pub AreObjects : Objects → Type 0
 AreObjects objects = All (λ (e : ℕ × StoredObject). HoldsBytes e.1) objects
+
+-- objects have these numbers, from this one on
+abbrev pub AreNumbered : ℕ → Objects → Type 0
+AreNumbered number [] = Unit {0}
+AreNumbered number (e ∷ objects) = (e.0 ≡ number) × AreNumbered (suc number) objects
+
+-- an object that is live, without cells, and not from `malloc` or `calloc`
+pub record IsFirst (o : StoredObject) : Type 0 where
+  pub lives : o.live ≡ true
+  pub cells_are : o.cells ≡ []
+  pub heap_is : o.heap ≡ false
+
+-- the store at the start of a program: its numbers are 1, 2 and so on
+pub record AreFirst (objects : Objects) : Type 0 where
+  pub hold : AreObjects objects
+  pub numbers : AreNumbered 1 objects
+  pub first : All (λ (e : ℕ × StoredObject). IsFirst e.1) objects
 
 -- ---- one action, where it is given this answer
 
 abbrev pub memory_of : Objects → Memory
 memory_of objects = (first_common objects).memory
 
--- what comes from the thread's own record: the word of a draw, or the number of what is made
-abbrev pub own_by : Answer → ℕ
-own_by Done = 0
-own_by (Bytes bytes) = 0
-own_by (Size size) = 0
-own_by (Word w) = w.bits
-own_by (Number number) = number
-own_by (Value v) = 0
+-- what comes from the thread's own record: the word of a draw, or the number of what is made, which is the next one: the one thread has made all objects, dead ones too
+abbrev pub own_by : Objects → Answer → ℕ
+own_by objects Done = 0
+own_by objects (Bytes bytes) = 0
+own_by objects (Size size) = 0
+own_by objects (Word w) = w.bits
+own_by objects (Number number) = suc (length objects)
+own_by objects (Value v) = 0
 
 abbrev pub outcome_of : Objects → Action → Answer → Outcome
-outcome_of objects action a = outcome_in (memory_of objects) (row 0 (own_by a) action)
+outcome_of objects action a = outcome_in (memory_of objects) (row 0 (own_by objects a) action)
 
 abbrev pub class_in : Outcome → Option Class
 class_in (breaks class) = Some class
@@ -68,7 +86,7 @@ has_answer (breaks class) a = false
 has_answer waits a = false
 has_answer (moves answer change) a = same_answer a answer
 
--- it moves with this answer: a read gives what the store holds there; what a draw gives is free
+-- it moves with this answer: a read gives what the store holds there, and what is made the next number; what a draw gives is free
 abbrev pub is_given : Objects → Action → Answer → Bool
 is_given objects action a = has_answer (outcome_of objects action a) a
 

@@ -18,11 +18,11 @@ use Rattle.word_dag.specs.declared.nodes.Node.TheVariants.{Constant}
 use Rattle.word_dag.specs.Meaning.{width, value, holds}
 use Rattle.word_dag.specs.Growth.{Within, Stands}
 use Rattle.value_nodes.specs.Values.{IsWord, AreBytes}
-use Rattle.guarded_ssa.specs.declared.forms.Event.{Event}
-use Rattle.guarded_ssa.specs.declared.forms.EventKind.{EventKind}
-use Rattle.guarded_ssa.specs.declared.forms.EventKind.TheVariants.{Draw, Fill, Read, Write, Look, Alloc, Die, Free, Exit, Check, Assume}
-use Rattle.guarded_ssa.specs.Runs.{Run, stops, asks, bytes_of_words, word_widths}
-use Rattle.guarded_ssa.specs.Arrivals.{Seen, asked, stopped, read}
+use Rattle.event_forms.specs.declared.forms.Event.{Event}
+use Rattle.event_forms.specs.declared.forms.EventKind.{EventKind}
+use Rattle.event_forms.specs.declared.forms.EventKind.TheVariants.{Draw, Fill, Read, Write, Look, Alloc, Die, Free, Exit, Check, Assume}
+use Rattle.event_forms.specs.Runs.{Run, stops, asks, bytes_of_words, word_widths}
+use Rattle.event_forms.specs.Arrivals.{Seen, asked, stopped, read}
 
 -- ---- under one valuation
 

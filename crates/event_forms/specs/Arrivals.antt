@@ -3,7 +3,7 @@ use Rattle.std.specs.Prelude.{ℕ, List, [], ◌∷◌}
 use Rattle.actions.specs.declared.action.Action.{Action}
 use Rattle.actions.specs.declared.action.Answer.{Answer}
 use Rattle.actions.specs.declared.action.Next.{Next}
-use Rattle.guarded_ssa.specs.Runs.{Run, stops, asks}
+use Rattle.event_forms.specs.Runs.{Run, stops, asks}
 
 pub data Seen : Type 0 where
   asked : (action : Action) (line function : ℕ) (answer : Answer) → Seen

@@ -1,5 +1,5 @@
 -- Bytes as words of 8 each: what such words give, and words that give bytes.
-use Rattle.std.proofs.Common.{◌≡◌, ℕ, zero, suc, ◌+◌, ◌-◌, ◌*◌, ◌/◌, ◌%◌, ◌^◌, ◌<◌, ◌≤◌, Bool, true, List, [], ◌∷◌, ◌++◌, length, take, drop, get_or, refl, sym, ap, subst, ◌∙◌, arith, nat_lt}
+use Rattle.std.proofs.Common.{◌≡◌, ℕ, zero, suc, ◌+◌, ◌-◌, ◌*◌, ◌/◌, ◌%◌, ◌^◌, ◌<◌, ◌≤◌, Bool, true, false, List, [], ◌∷◌, ◌++◌, length, take, get_or, refl, sym, ap, ◌∙◌, arith, nat_lt, true≢false}
 use Rattle.std.specs.Prelude.{min, ◌&&◌}
 use Rattle.std.specs.Int.{w64, byte_at, bytes_low_first, from_le_bytes, to_le_bytes}
 use Rattle.std.proofs.Math.Nat.{pow-suc, min-le_left}
@@ -7,15 +7,13 @@ use Rattle.std.proofs.Math.Pow.{mod-mod-pow}
 use Rattle.std.proofs.Math.Seq.{take-append_seam}
 use Rattle.std.proofs.lemmas.Nat.{mod-pow-add, div-mul-add, mod_below, pow_pos, le_bytes_8}
 use Rattle.std.proofs.lemmas.Bool.Decides.{nat_tests}
-use Rattle.std.proofs.lemmas.List.{length-append, length-take, length-take-le, length-drop, length-replicate, drop-drop, take-append-drop, nil_from_length}
+use Rattle.std.proofs.lemmas.List.{length-append, length-take-le, length-replicate}
 use Rattle.std.proofs.lemmas.List.Folds.{list_all-append}
 use Rattle.words.proofs.Powers.{pow_split}
 use Rattle.words.specs.Operators.{low_bits}
 use Rattle.actions.specs.ByteList.{are_bytes}
 use Rattle.c_values.specs.Variables.{low_bytes, zeros, word_count}
-use Rattle.goto_prog.proofs.Registers.{both, test_below}
-use Rattle.guarded_ssa.specs.Runs.{bytes_of_words}
-use Rattle.guarded_ssa.specs.inner.Answers.{words_by}
+use Rattle.event_forms.specs.Runs.{bytes_of_words}
 
 -- ---- the bytes of low bits
 
@@ -64,6 +62,13 @@ number_padded bs = refl
 test_of : (m n : ℕ) → m < n → nat_lt m n ≡ true
 test_of m n h = grind (arith, nat_tests)
 
+below_is : (m n : ℕ) → nat_lt m n ≡ true → m < n
+below_is m n h = grind (arith, nat_tests)
+
+pub both : (a b : Bool) → (a && b) ≡ true → (a ≡ true) × (b ≡ true)
+both true b h = (refl, h)
+both false b h = absurd (true≢false (sym h))
+
 both_true : (a b : Bool) → a ≡ true → b ≡ true → (a && b) ≡ true
 both_true a b first second = λ i. first i && second i
 
@@ -73,7 +78,7 @@ zeros_are_bytes (suc n) = zeros_are_bytes n
 
 byte_below : (bs : List ℕ) → are_bytes bs ≡ true → (i : ℕ) → get_or bs i 0 < 256
 byte_below [] h i = let none : 0 < 256 = omega arith in none
-byte_below (b ∷ bs) h zero = test_below b 256 (both (nat_lt b 256) (are_bytes bs) h).0
+byte_below (b ∷ bs) h zero = below_is b 256 (both (nat_lt b 256) (are_bytes bs) h).0
 byte_below (b ∷ bs) h (suc i) = byte_below bs (both (nat_lt b 256) (are_bytes bs) h).1 i
 
 pub number_bytes : (bs : List ℕ) → length bs ≤ 8 → are_bytes bs ≡ true → low_bytes (length bs) (number_is bs) ≡ bs
@@ -110,51 +115,5 @@ words_are_bytes left (w ∷ ws) =
     let rest = bytes_of_words (left - 8) ws in
     list_all-append (λ b. nat_lt b 256) first rest ∙ both_true (are_bytes first) (are_bytes rest) (low_are_bytes (min 8 left) w (min-le_left 8 left)) (words_are_bytes (left - 8) ws)
 
-pub words_size : (v : ℕ → ℕ) (k x left : ℕ) → left ≤ 8 * k → length (bytes_of_words left (words_by v k x left)) ≡ left
-words_size v zero x left h = let none : 0 ≡ left = omega (arith, h) in none
-words_size v (suc k) x left h =
-    let first = low_bytes (min 8 left) (low_bits (8 * min 8 left) (v x)) in
-    let rest = bytes_of_words (left - 8) (words_by v k (suc x) (left - 8)) in
-    let a = low_count (min 8 left) (low_bits (8 * min 8 left) (v x)) (min-le_left 8 left) in
-    let b = words_size v k (suc x) (left - 8) (omega (arith, h)) in
-    length-append first rest ∙ (λ i. a i + b i) ∙ min_rest left
-
 pub words_enough : (n : ℕ) → n ≤ 8 * word_count n
 words_enough n = let all : n ≤ 8 * ((n + 7) / 8) = omega arith in all
-
--- ---- words by a valuation
-
-first_variable : (x : ℕ) → x + 0 ≡ x
-first_variable x = omega arith
-
-next_variable : (x i : ℕ) → x + suc i ≡ suc x + i
-next_variable x i = omega arith
-
-pub words_by_same : (v w : ℕ → ℕ) (k x left : ℕ) → ((i : ℕ) → v (x + i) ≡ w (x + i)) → words_by v k x left ≡ words_by w k x left
-words_by_same v w zero x left same = refl
-words_by_same v w (suc k) x left same =
-    let a : v x ≡ w x = subst (λ n. v n ≡ w n) (first_variable x) (same 0) in
-    let b = words_by_same v w k (suc x) (left - 8) (λ i. subst (λ n. v n ≡ w n) (next_variable x i) (same (suc i))) in
-    λ j. low_bits (8 * min 8 left) (a j) ∷ b j
-
-all_bytes_of : (a b : List ℕ) → are_bytes (a ++ b) ≡ true → (are_bytes a ≡ true) × (are_bytes b ≡ true)
-all_bytes_of a b h = both (are_bytes a) (are_bytes b) (sym (list_all-append (λ n. nat_lt n 256) a b) ∙ h)
-
--- words that are the bytes, 8 in each
-pub words_give : (v : ℕ → ℕ) (k x left : ℕ) (bs : List ℕ) → length bs ≡ left → left ≤ 8 * k → are_bytes bs ≡ true → ((i : ℕ) → i < k → v (x + i) ≡ number_is (take 8 (drop (8 * i) bs))) → bytes_of_words left (words_by v k x left) ≡ bs
-words_give v zero x left bs size few all given = sym (nil_from_length bs (omega (arith, size, few)))
-words_give v (suc k) x left bs size few all given =
-    let first = take 8 bs in
-    let rest = drop 8 bs in
-    let count : length first ≡ min 8 left = length-take 8 bs ∙ ap (min 8) size in
-    let small : length first ≤ 8 = omega (arith, count, min-le_left 8 left) in
-    let parts = all_bytes_of first rest (ap are_bytes (take-append-drop 8 bs) ∙ all) in
-    let here : v x ≡ number_is first = subst (λ m. v m ≡ number_is first) (first_variable x) (given 0 (omega arith)) in
-    let a : low_bytes (min 8 left) (low_bits (8 * min 8 left) (v x)) ≡ first =
-    low_bytes_of_low (min 8 left) (v x) (min-le_left 8 left) ∙ (λ j. low_bytes (sym count j) (here j)) ∙ number_bytes first small parts.0 in
-    let behind : (i : ℕ) → i < k → v (suc x + i) ≡ number_is (take 8 (drop (8 * i) rest)) =
-    λ i lt. let place : 8 * suc i ≡ 8 + 8 * i = omega arith in
-    let same : drop (8 * suc i) bs ≡ drop (8 * i) rest = ap (λ m. drop m bs) place ∙ sym (drop-drop (8 * i) 8 bs) in
-    subst (λ m. v m ≡ number_is (take 8 (drop (8 * i) rest))) (next_variable x i) (given (suc i) (omega (arith, lt)) ∙ ap (λ ys. number_is (take 8 ys)) same) in
-    let b = words_give v k (suc x) (left - 8) rest (omega (arith, length-drop 8 bs, size)) (omega (arith, few)) parts.1 behind in
-    (λ j. a j ++ b j) ∙ take-append-drop 8 bs

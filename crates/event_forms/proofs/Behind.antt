@@ -3,10 +3,10 @@ use Rattle.std.proofs.Common.{◌≡◌, ◌<◌, ◌+◌, ℕ, List, [], ◌∷
 use Rattle.std.proofs.lemmas.List.{take_more}
 use Rattle.word_dag.specs.declared.nodes.Node.{Node}
 use Rattle.actions.specs.Objects.{Objects}
-use Rattle.guarded_ssa.specs.declared.forms.Event.{Event}
-use Rattle.guarded_ssa.specs.Arrivals.{Seen, asked, stopped}
-use Rattle.guarded_ssa.specs.Forms.{event_seen, seen}
-use Rattle.guarded_ssa.specs.Accesses.{stored_by, behind}
+use Rattle.event_forms.specs.declared.forms.Event.{Event}
+use Rattle.event_forms.specs.Arrivals.{Seen, asked, stopped}
+use Rattle.event_forms.specs.Forms.{event_seen, seen}
+use Rattle.event_forms.specs.Accesses.{stored_by, behind}
 
 pub behind_append : (objects : Objects) (xs ys : List Seen) → behind objects (xs ++ ys) ≡ behind (behind objects xs) ys
 behind_append objects [] ys = refl

@@ -8,7 +8,7 @@ use Rattle.actions.specs.Row.{Row, comes, sees_bytes, moves, outcome_in, unless}
 use Rattle.actions.specs.declared.action.Action.TheVariants.{Read, Write, Draw}
 use Rattle.actions.specs.declared.action.Answer.{Answer}
 use Rattle.actions.specs.declared.action.Answer.TheVariants.{Done, Bytes, Word}
-use Rattle.guarded_ssa.specs.Accesses.{memory_of, class_in, access_class, same_bytes, has_answer, is_given, objects_behind, stored_by}
+use Rattle.event_forms.specs.Accesses.{memory_of, class_in, access_class, same_bytes, has_answer, is_given, objects_behind, stored_by}
 
 -- ---- a read
 

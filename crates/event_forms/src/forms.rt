@@ -231,7 +231,7 @@ pub struct ThreadForm {
 }
 
 impl Model for ThreadForm {
-    ghost use Rattle.guarded_ssa.specs.Forms.{Form};
+    ghost use Rattle.event_forms.specs.Forms.{Form};
 
     ghost Value = { Form };
 

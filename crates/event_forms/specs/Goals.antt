@@ -9,7 +9,7 @@ use Rattle.interleave.specs.Inputs.{InputLists}
 use Rattle.interleave.specs.World.{World}
 use Rattle.interleave.specs.Run.{run}
 use Rattle.interleave.specs.Replay.{Replays}
-use Rattle.guarded_ssa.specs.Happenings.{Happening, happened, schedule_in, AreDrawn, check_in}
+use Rattle.event_forms.specs.Happenings.{Happening, happened, schedule_in, AreDrawn, check_in}
 
 -- This is all that happens in a run from w, whose last turn breaks the check and whose inputs are exactly the words drawn. There are such inputs.
 pub record Happens (w : World) (told : List Happening) (check : Check) : Type 0 where

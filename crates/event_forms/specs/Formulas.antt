@@ -4,16 +4,16 @@ use Rattle.words.specs.declared.check.Check.{Check}
 use Rattle.word_dag.specs.declared.nodes.Node.{Node}
 use Rattle.word_dag.specs.Meaning.{width, value, bit_value}
 use Rattle.word_dag.specs.Growth.{Within}
-use Rattle.guarded_ssa.specs.Runs.{Run}
-use Rattle.guarded_ssa.specs.Forms.{Form, run_read, FormIn}
+use Rattle.event_forms.specs.Runs.{Run}
+use Rattle.event_forms.specs.Forms.{Form, run_read, FormIn}
 use Rattle.interleave.specs.declared.turn.Outcome.TheVariants.{Broken}
 use Rattle.interleave.specs.Inputs.{InputLists}
 use Rattle.interleave.specs.World.{World}
 use Rattle.interleave.specs.Run.{run}
-use Rattle.guarded_ssa.specs.declared.formula.Formula.{Formula}
-use Rattle.guarded_ssa.specs.Accesses.{checked, agrees}
-use Rattle.guarded_ssa.specs.Turns.{breaks, drawn_words, inputs_for, turns, broken_check, happenings}
-use Rattle.guarded_ssa.specs.Happenings.{Happening, happened}
+use Rattle.event_forms.specs.declared.formula.Formula.{Formula}
+use Rattle.event_forms.specs.Accesses.{checked, agrees}
+use Rattle.event_forms.specs.Turns.{breaks, drawn_words, inputs_for, turns, broken_check, happenings}
+use Rattle.event_forms.specs.Happenings.{Happening, happened}
 
 -- the run that a valuation means, from the form's store on
 abbrev pub run_of : (ℕ → ℕ) → List Node → Form → Run

@@ -6,8 +6,8 @@ use Rattle.actions.specs.declared.action.Next.{Next}
 use Rattle.actions.specs.declared.action.Next.TheVariants.{Act, Ended, Blocked, Broken}
 use Rattle.interleave.specs.Inputs.{InputLists}
 use Rattle.interleave.specs.Turn.{check_of}
-use Rattle.guarded_ssa.specs.Runs.{Run, stops, asks}
-use Rattle.guarded_ssa.specs.Happenings.{Happening, does, fails, words_given}
+use Rattle.event_forms.specs.Runs.{Run, stops, asks}
+use Rattle.event_forms.specs.Happenings.{Happening, does, fails, words_given}
 
 abbrev pub is_break : Next → Bool
 is_break (Act action line function) = false
