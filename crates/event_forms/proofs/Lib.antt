@@ -4,3 +4,10 @@ pub mod ReadWords
 pub mod Behind
 pub mod Told
 pub mod Accesses
+pub mod Stores
+pub mod Quiet
+pub mod Alone
+pub mod QuietRuns
+pub mod Breaking
+pub mod Replaying
+pub mod OneThread
