@@ -1,8 +1,7 @@
 -- Runs in which there is thread 0 alone.
-use Rattle.std.proofs.Common.{◌≡◌, ℕ, suc, Bool, true, false, List, [], ◌∷◌, Option, Some, None, refl, ◌∙◌, ap, arith}
+use Rattle.std.proofs.Common.{◌≡◌, ℕ, suc, true, false, List, [], ◌∷◌, Option, None, refl, ◌∙◌, ap, arith}
 use Rattle.std.specs.Prelude.{nat_lt, ◌==◌}
 use Rattle.std.proofs.lemmas.Bool.Decides.{nat_tests}
-use Rattle.actions.specs.declared.thread_state.ThreadState.TheVariants.{Running}
 use Rattle.actions.specs.Objects.{Objects}
 use Rattle.actions.specs.Memory.{Change, keeps, adds, kills, puts, starts, ends, changed}
 use Rattle.actions.specs.Row.{Outcome, moves}
@@ -20,7 +19,7 @@ use Rattle.interleave.specs.declared.turn.Turn.TheVariants as turned
 use Rattle.interleave.specs.declared.turn.Outcome.TheVariants as ending
 use Rattle.interleave.specs.Inputs.{InputLists, words_of}
 use Rattle.interleave.specs.Own.{own_part, counted}
-use Rattle.interleave.specs.World.{World, Common, Member, first_common, section_after, ended_after, with_child, with_told, told}
+use Rattle.interleave.specs.World.{World, Member, first_common, section_after, ended_after}
 use Rattle.interleave.specs.Turn.{turn, settled, with_next}
 use Rattle.interleave.specs.Run.{run}
 use Rattle.event_forms.specs.Happenings.{Happening, action_happens, next_happens, happens, before, happened}

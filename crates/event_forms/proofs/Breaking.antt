@@ -1,9 +1,8 @@
 -- Each run of the file that breaks a check is a local run of its thread, whose answers are those that the store gives; a run of a valuation that begins with it, or in which the same happens, breaks the check.
-use Rattle.std.proofs.Common.{◌≡◌, ◌<◌, ◌+◌, ◌*◌, ◌^◌, ℕ, zero, suc, Bool, true, false, List, [], ◌∷◌, length, Option, Some, None, refl, sym, ◌∙◌, ap, subst, arith, inl, inr}
-use Rattle.std.specs.Prelude.{◌⊎◌, ◌&&◌}
+use Rattle.std.proofs.Common.{◌≡◌, ◌<◌, ◌+◌, ◌*◌, ◌^◌, ℕ, zero, suc, true, List, [], ◌∷◌, length, Option, Some, None, refl, sym, ◌∙◌, ap, subst, arith, inl, inr}
+use Rattle.std.specs.Prelude.{◌&&◌}
 use Rattle.words.specs.declared.check.Class.{Class}
 use Rattle.words.specs.declared.check.Check.{Check}
-use Rattle.words.specs.Operators.{low_bits}
 use Rattle.words.proofs.Ranges.{low_bits_below}
 use Rattle.actions.specs.Objects.{Objects}
 use Rattle.actions.specs.Memory.{Change, changed}
@@ -30,12 +29,12 @@ use Rattle.interleave.specs.Run.{run, unless_broken}
 use Rattle.event_forms.specs.Runs.{Run, stops, asks}
 use Rattle.event_forms.specs.Forms.{Begins}
 use Rattle.event_forms.specs.Accesses.{memory_of, own_by, outcome_of, class_in, has_answer, objects_behind, access_class, is_given, stored_by, unless, checked, agrees}
-use Rattle.event_forms.specs.Happenings.{Happening, does, fails, action_happens, happens, before, happened, check_in}
+use Rattle.event_forms.specs.Happenings.{Happening, does, fails, happens, before, happened, check_in}
 use Rattle.event_forms.specs.Turns.{breaks as breaks_run, end_happens, happenings}
 use Rattle.event_forms.proofs.Stores.{IsStore}
-use Rattle.event_forms.proofs.Quiet.{answer_itself, IsQuietAction, quiet_mode, more, outcome_with, class_own, SameOwn, outcome_own, IsOfObjects, IsPossible, possible, IsNext, own_told, IsSmall, Fits, fits, leaves}
-use Rattle.event_forms.proofs.Alone.{alone, other_turn, other_happens, own_turn, own_happens, exit_turn, over_fine, own, comes_to, act_turn, act_happens, behind_it, moves_on, first_happens}
-use Rattle.event_forms.proofs.QuietRuns.{IsQuiet, IsEnd, AreEnds, Quiets, quiets_behind}
+use Rattle.event_forms.proofs.Quiet.{answer_itself, IsQuietAction, quiet_mode, more, outcome_with, class_own, outcome_own, IsOfObjects, IsPossible, possible, IsNext, own_told, IsSmall, Fits, fits, leaves}
+use Rattle.event_forms.proofs.Alone.{alone, other_turn, other_happens, own_turn, own_happens, exit_turn, over_fine, own, act_turn, act_happens, behind_it, moves_on, first_happens}
+use Rattle.event_forms.proofs.QuietRuns.{IsEnd, AreEnds, Quiets, quiets_behind}
 
 -- ---- a run of the file that breaks a check is a local run whose answers are what the store gives, and what is next breaks it
 

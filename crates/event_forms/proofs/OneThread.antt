@@ -11,7 +11,6 @@ use Rattle.interleave.specs.Inputs.{InputLists}
 use Rattle.interleave.specs.World.{World, first_world, no_counts}
 use Rattle.interleave.specs.Run.{run}
 use Rattle.event_forms.specs.declared.formula.Formula.{Formula}
-use Rattle.event_forms.specs.Runs.{Run}
 use Rattle.event_forms.specs.Forms.{run_read, FormIn, IsForm}
 use Rattle.event_forms.specs.Accesses.{AreFirst, checked, agrees}
 use Rattle.event_forms.specs.Turns.{breaks, broken_check}

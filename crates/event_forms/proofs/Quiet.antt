@@ -1,8 +1,8 @@
 -- Actions of which the only thread of a file never waits: what the table of actions says of them.
-use Rattle.std.proofs.Common.{◌≡◌, ◌<◌, ◌+◌, ◌^◌, ℕ, suc, Bool, true, false, not, List, [], ◌∷◌, length, Option, Some, None, refl, sym, ◌∙◌, ap, subst, arith, true≢false, inl, inr}
+use Rattle.std.proofs.Common.{◌≡◌, ◌<◌, ◌^◌, ℕ, suc, Bool, true, false, List, length, Option, Some, None, refl, sym, ◌∙◌, ap, subst, arith, true≢false, inl, inr}
 use Rattle.std.specs.Prelude.{◌⊎◌, nat_lt, ◌==◌, ◌&&◌, IfSome, if◌then◌else◌, Result, Ok, Err}
 use Rattle.std.proofs.lemmas.Bool.Decides.{nat_tests}
-use Rattle.words.specs.BitVector.{BitVector, word}
+use Rattle.words.specs.BitVector.{word}
 use Rattle.words.specs.declared.check.Class.{Class}
 use Rattle.words.specs.declared.check.Class.TheVariants as classes
 use Rattle.actions.specs.ByteList.{are_bytes}
@@ -10,8 +10,8 @@ use Rattle.actions.specs.Pointer.{object_of}
 use Rattle.actions.specs.StoredObject.{StoredObject, as_live, as_dead}
 use Rattle.actions.specs.States.{is_absent, state_of, dead, live}
 use Rattle.actions.specs.Access.{look, size_in, can_free}
-use Rattle.actions.specs.Objects.{Objects, object_at, state_at, with_new, with_dead, with_bytes, bytes_at, break_in, write_break, unless_changed, after_write}
-use Rattle.actions.specs.Memory.{Change, keeps, adds, kills, puts, starts, ends, changed}
+use Rattle.actions.specs.Objects.{Objects, object_at, state_at, with_new, with_bytes, bytes_at, break_in, write_break, unless_changed}
+use Rattle.actions.specs.Memory.{Change, keeps, adds, kills, puts, starts, ends}
 use Rattle.actions.specs.AccessRows.{looked}
 use Rattle.actions.specs.Row.{Outcome, breaks, waits, moves, outcome_in, comes, sees_bytes, sees_object, unless}
 use Rattle.actions.specs.Table.{row, mode_of, plain}
@@ -20,7 +20,7 @@ use Rattle.actions.specs.declared.action.Action.TheVariants as actions
 use Rattle.actions.specs.declared.action.Answer.{Answer}
 use Rattle.actions.specs.declared.action.Answer.TheVariants as answers
 use Rattle.actions.specs.Behaviour.{has_shape, shape_of}
-use Rattle.event_forms.specs.Accesses.{HoldsBytes, memory_of, own_by, class_in, same_bytes, same_answer, objects_behind}
+use Rattle.event_forms.specs.Accesses.{HoldsBytes, memory_of, own_by, class_in, same_answer, objects_behind}
 use Rattle.event_forms.proofs.Stores.{left_true, right_true, same_itself, bytes_same, bytes_fit, holds_at, dead_holds, live_holds, IsStore, changed_store, changed_at_long, new_store, new_long, write_store, write_long}
 
 -- ---- answers

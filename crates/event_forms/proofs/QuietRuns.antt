@@ -1,5 +1,5 @@
 -- Runs of actions of which the only thread of a file never waits: those that forms tell.
-use Rattle.std.proofs.Common.{◌≡◌, ◌<◌, ◌≤◌, ◌+◌, ◌^◌, ℕ, zero, suc, Bool, true, false, List, [], ◌∷◌, ◌++◌, length, map, take, refl, sym, ◌∙◌, ap, subst, arith}
+use Rattle.std.proofs.Common.{◌≡◌, ◌<◌, ◌≤◌, ◌+◌, ◌^◌, ℕ, zero, suc, Bool, true, false, List, [], ◌∷◌, ◌++◌, length, map, take, refl, sym, subst, arith}
 use Rattle.std.specs.Prelude.{nat_lt, ◌&&◌, min, if◌then◌else◌}
 use Rattle.std.proofs.lemmas.List.Elements.{All-head, All-tail}
 use Rattle.std.proofs.lemmas.Bool.Decides.{nat_tests}
@@ -28,7 +28,7 @@ use Rattle.event_forms.specs.declared.forms.EventKind.{EventKind}
 use Rattle.event_forms.specs.declared.forms.EventKind.TheVariants as kinds
 use Rattle.event_forms.specs.Runs.{Run, stops, asks}
 use Rattle.event_forms.specs.Arrivals.{Seen, stopped, read}
-use Rattle.event_forms.specs.Forms.{draws_seen, kind_seen, event_seen, seen, run_read, Begins, IsForm, EventIn, KindIn, FormIn}
+use Rattle.event_forms.specs.Forms.{draws_seen, kind_seen, seen, run_read, Begins, IsForm, EventIn, KindIn, FormIn}
 use Rattle.event_forms.specs.Accesses.{HoldsBytes}
 use Rattle.event_forms.proofs.Quiet.{IsQuietAction, more}
 

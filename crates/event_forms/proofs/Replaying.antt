@@ -1,6 +1,6 @@
 -- The run that a form gives under a valuation is a run of the file, where it agrees with the store and breaks a check.
-use Rattle.std.proofs.Common.{◌≡◌, ◌<◌, ◌+◌, ◌*◌, ◌^◌, ℕ, zero, suc, Bool, true, false, List, [], ◌∷◌, ◌++◌, length, Option, Some, None, refl, sym, ◌∙◌, ap, subst, arith, true≢false, append_assoc, length-append, inl, inr}
-use Rattle.std.specs.Prelude.{◌⊎◌, slice_index, slice_get, nat_lt, ◌==◌, ◌&&◌, if◌then◌else◌}
+use Rattle.std.proofs.Common.{◌≡◌, ◌<◌, ◌+◌, ◌*◌, ◌^◌, ℕ, zero, suc, true, List, [], ◌∷◌, ◌++◌, length, Option, Some, None, refl, sym, ◌∙◌, ap, subst, arith, true≢false, append_assoc, length-append, inl, inr}
+use Rattle.std.specs.Prelude.{slice_index, slice_get, nat_lt, if◌then◌else◌}
 use Rattle.std.proofs.lemmas.Bool.Decides.{nat_tests}
 use Rattle.std.proofs.Math.Nat.{mod-eq_of_lt}
 use Rattle.words.specs.BitVector.{BitVector, word}
@@ -16,30 +16,30 @@ use Rattle.actions.specs.declared.action.Action.TheVariants as actions
 use Rattle.actions.specs.declared.action.Answer.{Answer}
 use Rattle.actions.specs.declared.action.Answer.TheVariants as answers
 use Rattle.actions.specs.declared.action.Next.{Next}
-use Rattle.actions.specs.declared.action.Next.TheVariants.{Act, Ended, Blocked, Broken}
-use Rattle.actions.specs.Behaviour.{Behaviour, Program, Thread, after, accepts, has_shape, shape_of, word_64}
+use Rattle.actions.specs.declared.action.Next.TheVariants.{Act, Broken}
+use Rattle.actions.specs.Behaviour.{Behaviour, Program, Thread, after, accepts, has_shape, shape_of}
 use Rattle.actions.specs.LocalRun.{Exchange, IsLocalRun}
 use Rattle.interleave.specs.declared.counts.Counts.{Counts}
 use Rattle.interleave.specs.declared.turn.Turn.{Turn}
 use Rattle.interleave.specs.declared.turn.Turn.TheVariants as turned
 use Rattle.interleave.specs.declared.turn.Outcome.TheVariants as ending
 use Rattle.interleave.specs.Inputs.{InputLists, words_of}
-use Rattle.interleave.specs.Own.{next_word, own_part, counted}
+use Rattle.interleave.specs.Own.{own_part, counted}
 use Rattle.interleave.specs.World.{World, first_world, no_counts}
 use Rattle.interleave.specs.Turn.{turn, check_of}
 use Rattle.interleave.specs.Run.{run, unless_broken}
 use Rattle.interleave.specs.Replay.{Replays, IsDrawnWhole, MovesTo, used_by}
 use Rattle.event_forms.specs.Runs.{Run, stops, asks}
 use Rattle.event_forms.specs.Forms.{Begins}
-use Rattle.event_forms.specs.Accesses.{memory_of, own_by, outcome_of, class_in, has_answer, objects_behind, access_class, is_given, stored_by, unless, checked, agrees}
-use Rattle.event_forms.specs.Happenings.{Happening, does, fails, words_given, happens, happened, AreDrawn}
+use Rattle.event_forms.specs.Accesses.{memory_of, own_by, outcome_of, class_in, has_answer, objects_behind, is_given, stored_by, unless, checked, agrees}
+use Rattle.event_forms.specs.Happenings.{does, fails, words_given, happens, happened, AreDrawn}
 use Rattle.event_forms.specs.Goals.{Happens}
 use Rattle.event_forms.specs.Turns.{is_break, breaks as breaks_run, drawn_words, inputs_for, turns, broken_check, happenings}
 use Rattle.event_forms.proofs.Told.{turns_told, check_told, words_told, others_draw, are_drawn}
 use Rattle.event_forms.proofs.Stores.{left_true, right_true, IsStore}
 use Rattle.event_forms.proofs.Quiet.{answer_same, IsQuietAction, quiet_mode, more, outcome_with, class_own, SameOwn, outcome_own, IsOfObjects, IsPossible, possible, IsNext, leaves}
 use Rattle.event_forms.proofs.Alone.{alone, own_turn, own_happens, own, act_turn, act_happens, behind_it, moves_on, first_happens, not_below, not_zero}
-use Rattle.event_forms.proofs.QuietRuns.{OnlyQuiet, made_in, more_moves}
+use Rattle.event_forms.proofs.QuietRuns.{OnlyQuiet}
 use Rattle.event_forms.proofs.Breaking.{made_counted}
 
 -- ---- the run of a valuation is a whole local run

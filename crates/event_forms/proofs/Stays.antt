@@ -1,12 +1,13 @@
 -- What events tell under a valuation stays in a graph that has grown.
-use Rattle.std.proofs.Common.{◌≡◌, ℕ, List, [], ◌∷◌, ◌++◌, take, refl, ap, ◌∙◌}
+use Rattle.std.proofs.Common.{◌≡◌, ℕ, List, [], ◌∷◌, ◌++◌, take, refl, sym, ap, subst, ◌∙◌}
 use Rattle.std.specs.Prelude.{min, if◌then◌else◌}
 use Rattle.std.specs.List.{All}
 use Rattle.std.proofs.lemmas.List.Elements.{All-nil, All-head, All-tail, All-weaker}
 use Rattle.words.specs.BitVector.{word}
 use Rattle.actions.specs.declared.action.Action.TheVariants as actions
 use Rattle.actions.specs.declared.action.Answer.TheVariants as answers
-use Rattle.actions.specs.declared.action.Next.TheVariants.{Blocked, Broken}
+use Rattle.actions.specs.declared.action.Next.TheVariants.{Ended, Blocked, Broken}
+use Rattle.actions.specs.Behaviour.{Behaviour, word_64}
 use Rattle.actions.specs.Pointer.{object_of}
 use Rattle.c_values.specs.Variables.{word_count}
 use Rattle.c_values.specs.MadeObjects.{made_of}
@@ -20,9 +21,9 @@ use Rattle.value_nodes.specs.Values.{IsWord, AreBytes}
 use Rattle.event_forms.specs.declared.forms.Event.{Event}
 use Rattle.event_forms.specs.declared.forms.EventKind.{EventKind}
 use Rattle.event_forms.specs.declared.forms.EventKind.TheVariants.{Draw, Fill, Read, Write, Look, Alloc, Die, Free, Exit, Check, Assume}
-use Rattle.event_forms.specs.Runs.{bytes_of_words}
-use Rattle.event_forms.specs.Arrivals.{asked, stopped}
-use Rattle.event_forms.specs.Forms.{IsBit, AreWords, KindIn, EventIn, FormIn, IsFixed, IsStaticKind, AreStatic, draws_seen, kind_seen, event_seen, seen}
+use Rattle.event_forms.specs.Runs.{Run, stops, bytes_of_words}
+use Rattle.event_forms.specs.Arrivals.{asked, stopped, read}
+use Rattle.event_forms.specs.Forms.{IsBit, AreWords, KindIn, EventIn, FormIn, IsFixed, IsStaticKind, AreStatic, draws_seen, kind_seen, event_seen, seen, run_read, Begins, IsForm}
 
 module _ (d e : List Node) (x : Extends d e) where
   pub word_stays : (i : Id) (w : ℕ) → IsWord d i w → IsWord e i w
@@ -94,6 +95,16 @@ module _ (d e : List Node) (x : Extends d e) where
       let p = event_stays v event (All-head (EventIn d) event es h) in
       let q = seen_stays v es (All-tail (EventIn d) event es h) in
       λ i. p i ++ q i
+
+  pub run_stays : (v : ℕ → ℕ) (es : List Event) → FormIn d es → run_read v e es ≡ run_read v d es
+  run_stays v es h = ap (λ told. read told (stops (Ended (word_64 0)))) (seen_stays v es h)
+
+  -- what was a form stays one
+  pub is_form_stays : (b : Behaviour) (es : List Event) → FormIn d es → IsForm b d es → IsForm b e es
+  is_form_stays b es there form = record {
+    gives = λ v run next begins. form.gives v run next (subst (λ (r : Run). Begins run next r) (run_stays v es there) begins);
+    has = λ run next local. let h = form.has run next local in (h.0, subst (λ (r : Run). Begins run next r) (sym (run_stays h.0 es there)) h.1);
+  }
 
   -- a constant stays the node that it is
   pub fixed_stays : (i : Id) → IsFixed d i → IsFixed e i

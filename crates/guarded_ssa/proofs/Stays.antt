@@ -20,6 +20,7 @@ use Rattle.guarded_ssa.specs.declared.registers.Zeros.{Zeros}
 use Rattle.guarded_ssa.specs.declared.slots.Slot.{Slot}
 use Rattle.guarded_ssa.specs.declared.pass.Pass.{Pass}
 use Rattle.event_forms.specs.Forms.{FormIn}
+use Rattle.event_forms.proofs.Stays.{word_stays, form_stays}
 use Rattle.guarded_ssa.specs.inner.Registers.{ZerosIn, TreeIn, word_or_0, words_from}
 use Rattle.guarded_ssa.proofs.CellWords.{words_same}
 use Rattle.guarded_ssa.specs.inner.Held.{SlotIn, PendingIn, PassIn, cells, total, stored, held, guarded, arrival, arrivals}

@@ -1,5 +1,5 @@
 -- The goal of a formula, from the last event to the first.
-use Rattle.std.proofs.Common.{◌≡◌, ◌<◌, ◌≤◌, ◌+◌, ◌-◌, ℕ, zero, suc, Bool, true, false, ◌&&◌, ◌||◌, List, [], ◌∷◌, ◌++◌, length, get_or, take, drop, Option, Some, None, refl, sym, ◌∙◌, ap, subst, arith}
+use Rattle.std.proofs.Common.{◌≡◌, ◌<◌, ◌^◌, ◌≤◌, ◌+◌, ◌-◌, ℕ, zero, suc, Bool, true, false, ◌&&◌, ◌||◌, List, [], ◌∷◌, ◌++◌, length, get_or, take, drop, Option, Some, None, refl, sym, ◌∙◌, ap, subst, arith}
 use Rattle.std.specs.Prelude.{All, min, if◌then◌else◌}
 use Rattle.std.proofs.Math.Seq.{drop-cons}
 use Rattle.words.specs.declared.check.Class.{Class}
@@ -16,23 +16,19 @@ use Rattle.word_dag.specs.Growth.{Extends}
 use Rattle.word_dag.proofs.Grown.{extends_more}
 use Rattle.word_dag.proofs.Truth.{holds_bit}
 use Rattle.value_nodes.specs.Values.{IsTest}
-use Rattle.words.specs.declared.check.Check.{Check}
-use Rattle.interleave.specs.declared.turn.Outcome.TheVariants.{Broken}
-use Rattle.interleave.specs.Inputs.{InputLists}
-use Rattle.interleave.specs.World.{World, first_world, no_counts}
+use Rattle.interleave.specs.World.{first_world}
 use Rattle.interleave.specs.Run.{run}
 use Rattle.event_forms.specs.declared.forms.Event.{Event}
 use Rattle.event_forms.specs.declared.forms.EventKind.{EventKind}
 use Rattle.event_forms.specs.Runs.{Run, stops, asks}
 use Rattle.event_forms.specs.Arrivals.{Seen, asked, stopped, read}
-use Rattle.event_forms.specs.Forms.{kind_seen, event_seen, seen, run_read, Begins, Form, IsForm, IsBit, EventIn, KindIn, FormIn, IsStaticKind, AreStatic}
+use Rattle.event_forms.specs.Forms.{kind_seen, event_seen, seen, run_read, Form, IsForm, IsBit, EventIn, KindIn, FormIn, IsStaticKind, AreStatic}
 use Rattle.event_forms.proofs.Stays as kept
 use Rattle.event_forms.specs.declared.formula.Formula.{Formula}
 use Rattle.mem_seq.specs.declared.memory.Note.{Note}
 use Rattle.mem_seq.specs.declared.memory.Note.TheVariants as notes
-use Rattle.event_forms.specs.Accesses.{AreObjects, access_class, is_given, stored_by, unless, checked, agrees, behind}
-use Rattle.event_forms.specs.Turns.{breaks, broken_check}
-use Rattle.event_forms.specs.Happenings.{happened, check_in}
+use Rattle.event_forms.specs.Accesses.{AreFirst, access_class, is_given, stored_by, unless, checked, agrees, behind}
+use Rattle.event_forms.specs.Turns.{breaks}
 use Rattle.event_forms.proofs.Behind.{behind_append, store_at, store_next}
 use Rattle.mem_seq.specs.Goals.{breaks_or, breaks_from}
 use Rattle.mem_seq.specs.declared.chain.Chain.{Chain}
@@ -41,10 +37,9 @@ use Rattle.mem_seq.specs.declared.chain.Part.TheVariants.{Breaks}
 use Rattle.mem_seq.specs.Chains.{with_part, chain_value, ChainIn}
 use Rattle.mem_seq.proofs.Chaining.{chain_stays}
 use Rattle.mem_seq.specs.Notes.{NoteIn, IsNote, AreNotes}
-use Rattle.event_forms.specs.Goals.{Happens, IsGoal}
+use Rattle.event_forms.specs.Goals.{IsGoal}
 use Rattle.event_forms.specs.Formulas.{run_of, told_by, IsFormula, FormulaIn}
-use Rattle.mem_seq.proofs.Stores.{left_true, right_true}
-use Rattle.mem_seq.proofs.Breaking.{OnlyQuiet, kind_stays, event_stays, run_stays, form_quiet, told_check, Found, Quiets, found, quiet_ends, begins_break, told_agrees, whole, read_quiet, run_happens}
+use Rattle.event_forms.proofs.OneThread.{is_goal, is_formula}
 
 -- ---- one event
 
@@ -110,12 +105,12 @@ note_in_stays d e (notes.Gives i) x there = bit_stays d e i x there
 note_in_stays d e notes.Alone x there = tt
 
 pub note_stays : (d e : List Node) (ev : Event) (n : Note) (stores : (ℕ → ℕ) → Objects) → Extends d e → EventIn d ev → NoteIn d n → IsNote stores d ev n → IsNote stores e ev n
-note_stays d e ev notes.Passes stores x there within is = λ v later. (λ k. breaks_from (stores v) (kind_stays v d e ev.line ev.function ev.kind x there.kind k) later) ∙ is v later
-note_stays d e ev notes.Breaks stores x there within is = λ v later. (λ k. breaks_from (stores v) (kind_stays v d e ev.line ev.function ev.kind x there.kind k) later) ∙ is v later
+note_stays d e ev notes.Passes stores x there within is = λ v later. (λ k. breaks_from (stores v) (kept.kind_seen_stays d e x v ev.line ev.function ev.kind there.kind k) later) ∙ is v later
+note_stays d e ev notes.Breaks stores x there within is = λ v later. (λ k. breaks_from (stores v) (kept.kind_seen_stays d e x v ev.line ev.function ev.kind there.kind k) later) ∙ is v later
 note_stays d e ev (notes.Gives i) stores x there within is = λ v later guard_is.
-    (λ k. breaks_from (stores v) (kind_stays v d e ev.line ev.function ev.kind x there.kind k) later) ∙ is v later (ap holds (sym (x.value_stays v ev.guard there.guard.there)) ∙ guard_is) ∙ (λ k. holds (sym (x.value_stays v i within.there) k) && later)
+    (λ k. breaks_from (stores v) (kept.kind_seen_stays d e x v ev.line ev.function ev.kind there.kind k) later) ∙ is v later (ap holds (sym (x.value_stays v ev.guard there.guard.there)) ∙ guard_is) ∙ (λ k. holds (sym (x.value_stays v i within.there) k) && later)
 note_stays d e ev notes.Alone stores x there within is = λ v later.
-    let same = kind_stays v d e ev.line ev.function ev.kind x there.kind in
+    let same = kept.kind_seen_stays d e x v ev.line ev.function ev.kind there.kind in
     (λ k. breaks_from (stores v) (same k) later) ∙ is v later ∙ sym (λ k. breaks_from [] (same k) later)
 
 -- ---- all events
@@ -202,7 +197,7 @@ looking_more d e f g objects es ns ev n old new p at there notes_there given l i
           let later : chain_value v f old ≡ breaks_from (store_at objects d es (at + 1) v) (seen v d rest) false = chain_stays v e f old x l.chain_in ∙ l.truth v in
           takes v
           ∙ sym (made v (chain_value v f old))
-          ∙ (λ k. breaks_from (stores v) (event_stays v d e ev l.extends here k) (later k))
+          ∙ (λ k. breaks_from (stores v) (kept.event_stays d e l.extends v ev here k) (later k))
           ∙ ap (λ (os : Objects). breaks_from (stores v) (event_seen v d ev) (breaks_from os (seen v d rest) false)) (store_next objects v d es at ev lt is)
           ∙ sym (breaks_append (stores v) (event_seen v d ev) (seen v d rest) false)
           ∙ ap (λ (more : List Event). breaks_from (stores v) (seen v d more) false) (sym first);
@@ -226,64 +221,24 @@ looking_whole d e g objects es chain goal (suc at) none l test = absurd (omega (
 
 -- ---- the formula
 
-one_true : (b : Bool) → bit_value b ≡ 1 → b ≡ true
-one_true true h = refl
-one_true false h = cc
-
-module _ (d e : List Node) (f : Formula) (t : Thread) (ordered : is_ordered d ≡ true) (x : Extends d e) (there : FormIn d f.form.events) (static : AreStatic d f.form.events) (all : AreObjects f.form.store) (goal : IsTest e f.goal (λ v. breaks_in v d f.form)) (form : IsForm t.behaves d f.form.events) where
-  abbrev objects : Objects
-  objects = f.form.store
-
-  abbrev first : World
-  first = first_world t objects
-
-  abbrev quiets : Quiets t.behaves
-  quiets = form_quiet t.behaves d f.form.events ordered there static form
-
+module _ (d e : List Node) (f : Formula) (t : Thread) (ordered : is_ordered e ≡ true) (x : Extends d e) (there : FormIn d f.form.events) (room : length f.form.store + length f.form.events < 2 ^ 32) (goal : IsTest e f.goal (λ v. breaks_in v d f.form)) (all : AreFirst f.form.store) (form : IsForm t.behaves d f.form.events) where
   stays : (v : ℕ → ℕ) → run_read v e f.form.events ≡ run_read v d f.form.events
-  stays v = run_stays v d e f.form.events x there
+  stays v = kept.run_stays d e x v f.form.events there
 
   is_true : (v : ℕ → ℕ) → value v e f.goal ≡ bit_value (breaks_in v e f.form)
-  is_true v = goal.value_is v ∙ (λ k. bit_value (let r = checked objects (sym (stays v) k) in agrees objects r && breaks r))
+  is_true v = goal.value_is v ∙ (λ k. bit_value (let r = checked f.form.store (sym (stays v) k) in agrees f.form.store r && breaks r))
 
-  makes_true : (v : ℕ → ℕ) → agrees objects (checked objects (run_read v e f.form.events)) ≡ true → breaks (checked objects (run_read v e f.form.events)) ≡ true → value v e f.goal ≡ 1
-  makes_true v agreed broken = is_true v ∙ (λ k. bit_value (agreed k && broken k))
+  there_later : FormIn e f.form.events
+  there_later = kept.form_stays d e x f.form.events there
 
-  replayed : (v : ℕ → ℕ) → value v e f.goal ≡ 1 → (check : Check) × Happens first (told_by e f.form v) check
-  replayed v h =
-      let r = run_read v e f.form.events in
-      let whole_is = one_true (breaks_in v e f.form) (sym (is_true v) ∙ h) in
-      let only : OnlyQuiet r = subst OnlyQuiet (sym (stays v)) (read_quiet v d ordered f.form.events there static) in (
-        broken_check (checked objects r),
-        run_happens t objects r only (whole r t.behaves (λ xs next begins. form.gives v xs next (subst (λ (r : Run). Begins xs next r) (stays v) begins)))
-            (left_true (agrees objects (checked objects r)) (breaks (checked objects r)) whole_is) (right_true (agrees objects (checked objects r)) (breaks (checked objects r)) whole_is),
-      )
+  form_later : IsForm t.behaves e f.form.events
+  form_later = kept.is_form_stays d e x t.behaves f.form.events there form
 
-  breaking : (inputs : InputLists) (schedule : List ℕ) (check : Check) → (run first inputs schedule).0 ≡ Broken check → Found objects t.behaves check (happened first inputs schedule)
-  breaking inputs schedule check ends = found t.program inputs check schedule objects t.behaves (record no_counts { objects = length objects }) all quiets ends
+  pub goal_is : IsGoal (first_world t f.form.store) e f.goal (told_by e f.form)
+  goal_is = is_goal e f t ordered there_later all room is_true form_later
 
-  given : (inputs : InputLists) (schedule : List ℕ) (check : Check) → (run first inputs schedule).0 ≡ Broken check
-      → (v : ℕ → ℕ) × (value v e f.goal ≡ 1) × (told_by e f.form v ≡ happened first inputs schedule) × (check_in (told_by e f.form v) ≡ Some check)
-  given inputs schedule check ends =
-      let F = breaking inputs schedule check ends in
-      let h = form.has F.exchanges F.next F.local in
-      let v = h.0 in
-      let r = run_read v e f.form.events in
-      let only : OnlyQuiet r = subst OnlyQuiet (sym (stays v)) (read_quiet v d ordered f.form.events there static) in
-      let b = begins_break r objects F.exchanges F.next check (quiet_ends r only) (subst (λ (r : Run). Begins F.exchanges F.next r) (sym (stays v)) h.1) F.ends in
-      (v, makes_true v b.agreed b.broken, b.told_is ∙ sym F.told_is, ap check_in b.told_is ∙ told_check F.exchanges check)
-
-  exactly : (v : ℕ → ℕ) (inputs : InputLists) (schedule : List ℕ) (check : Check) → (run first inputs schedule).0 ≡ Broken check → told_by e f.form v ≡ happened first inputs schedule → value v e f.goal ≡ 1
-  exactly v inputs schedule check ends same =
-      let F = breaking inputs schedule check ends in
-      let a = told_agrees (run_read v e f.form.events) objects F.exchanges F.next check F.ends (same ∙ F.told_is) in
-      makes_true v a.agreed a.broken
-
-  pub is_goal : IsGoal first e f.goal (told_by e f.form)
-  is_goal = record { replays = replayed; given = given }
-
-  pub is_formula : IsFormula first e f
-  is_formula = record { store = refl; is = is_true; exact = exactly }
+  pub formula_is : IsFormula (first_world t f.form.store) e f
+  formula_is = is_formula e f t ordered there_later all room is_true form_later
 
 pub form_in_later : (d e : List Node) (es own : List Event) → own ≡ es → Extends d e → FormIn d es → FormIn e own
 form_in_later d e es own same x there = subst (FormIn e) (sym same) (form_in_stays d e es x there)
@@ -298,8 +253,4 @@ static_later d e own given same x static = subst (λ (f : Form). AreStatic e f.e
 -- a form of a thread is one in a larger graph too
 pub is_form_later : (d m e : List Node) (own given : Form) (t : Thread) → own ≡ given → Extends d m → Extends m e → FormIn d given.events → IsForm t.behaves d given.events → IsForm t.behaves e own.events
 is_form_later d m e own given t same x y there form =
-    let stays : (v : ℕ → ℕ) → run_read v e given.events ≡ run_read v d given.events = λ v. run_stays v d e given.events (extends_more d m e x y) there in
-    subst (λ (g : Form). IsForm t.behaves e g.events) (sym same) (record {
-      gives = λ v run next begins. form.gives v run next (subst (λ (r : Run). Begins run next r) (stays v) begins);
-      has = λ run next local. let h = form.has run next local in (h.0, subst (λ (r : Run). Begins run next r) (sym (stays h.0)) h.1);
-    })
+    subst (λ (g : Form). IsForm t.behaves e g.events) (sym same) (kept.is_form_stays d e (extends_more d m e x y) t.behaves given.events there form)

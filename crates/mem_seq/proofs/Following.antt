@@ -1,5 +1,5 @@
 -- Events that stand for those of a form, one after the other: what they tell, and what it means where a read gives something else than the store holds.
-use Rattle.std.proofs.Common.{◌≡◌, ℕ, ◌+◌, ◌<◌, ◌≤◌, Bool, true, false, ◌&&◌, List, [], ◌∷◌, ◌++◌, length, take, get_or, refl, sym, ap, subst, ◌∙◌, append-nil}
+use Rattle.std.proofs.Common.{◌≡◌, ℕ, ◌+◌, ◌<◌, ◌≤◌, ◌^◌, Bool, true, false, ◌&&◌, List, [], ◌∷◌, ◌++◌, length, take, get_or, refl, sym, ap, subst, ◌∙◌, append-nil}
 use Rattle.std.specs.Prelude.{All}
 use Rattle.std.proofs.lemmas.List.{take_more, take_all}
 use Rattle.std.proofs.lemmas.List.Elements.{All-push, All-nil, All-weaker}
@@ -16,22 +16,21 @@ use Rattle.rewritten_nodes.specs.Images.{KnownIn, Agrees}
 use Rattle.event_forms.specs.declared.forms.Event.{Event}
 use Rattle.event_forms.specs.Arrivals.{Seen, asked, stopped}
 use Rattle.event_forms.specs.Forms.{event_seen, seen, run_read, EventIn, FormIn, Form, IsForm, IsStaticKind, AreStatic}
-use Rattle.event_forms.proofs.Stays.{all_static_stay}
+use Rattle.event_forms.proofs.Stays.{all_static_stay, event_stays, seen_stays, form_stays}
 use Rattle.interleave.specs.World.{first_world}
 use Rattle.event_forms.specs.declared.formula.Formula.{Formula}
 use Rattle.mem_seq.specs.declared.memory.Memory.{Memory}
 use Rattle.mem_seq.specs.declared.memory.Note.{Note}
-use Rattle.event_forms.specs.Accesses.{AreObjects, access_class, is_given, stored_by, checked, agrees, behind}
+use Rattle.event_forms.specs.Accesses.{AreFirst, access_class, is_given, stored_by, checked, agrees, behind}
 use Rattle.event_forms.specs.Turns.{breaks}
 use Rattle.mem_seq.specs.Goals.{breaks_or, breaks_from, gives}
 use Rattle.mem_seq.specs.Notes.{NoteIn, IsNote, AreNotes}
 use Rattle.mem_seq.specs.Memories.{StandsFor, MemoryIn}
 use Rattle.event_forms.specs.Goals.{IsGoal}
 use Rattle.event_forms.specs.Formulas.{told_by, IsFormula}
-use Rattle.mem_seq.proofs.Stores.{left_true, right_true}
-use Rattle.mem_seq.proofs.Breaking.{event_stays, seen_stays}
+use Rattle.event_forms.proofs.Stores.{left_true, right_true}
 use Rattle.event_forms.proofs.Behind.{behind_append, seen_append}
-use Rattle.mem_seq.proofs.Building.{note_in_stays, form_in_stays, breaks_append, breaks_read, same_test, breaks_in, is_formula, is_goal}
+use Rattle.mem_seq.proofs.Building.{note_in_stays, breaks_append, breaks_read, same_test, breaks_in, formula_is, goal_is}
 use Rattle.mem_seq.proofs.Noted.{notes_push, notes_stay}
 
 -- ---- what is told
@@ -116,7 +115,7 @@ module _ (d e f : List Node) (store : Objects) (es : List Event) (m n : Memory) 
   here = subst (EventIn d) (sym is) (in_ k ev lt)
 
   own_stays : (v : ℕ → ℕ) → event_seen v e ev ≡ event_seen v d ev
-  own_stays v = event_stays v d e ev c.extends here
+  own_stays v = event_stays d e c.extends v ev here
 
   one : (v : ℕ → ℕ) (g : List Node) (i : Event) → seen v g (i ∷ []) ≡ event_seen v g i
   one v g i = append-nil (event_seen v g i)
@@ -128,7 +127,7 @@ module _ (d e f : List Node) (store : Objects) (es : List Event) (m n : Memory) 
 
   other_told : (v : ℕ → ℕ) → seen v f more ≡ seen v e others ++ event_seen v f other
   other_told v =
-      ap (seen v f) more_is ∙ seen_append v f others (other ∷ []) ∙ (let p = seen_stays v e f others x c.form in let q = one v f other in λ i. p i ++ q i)
+      ap (seen v f) more_is ∙ seen_append v f others (other ∷ []) ∙ (let p = seen_stays e f x v others c.form in let q = one v f other in λ i. p i ++ q i)
 
   gives_more : (v : ℕ → ℕ) → gives store (seen v d (take (k + 1) es)) ≡ (gives store (seen v d (take k es)) && gives (behind store (seen v d (take k es))) (event_seen v d ev))
   gives_more v = ap (gives store) (own_told v) ∙ gives_append store (seen v d (take k es)) (event_seen v d ev)
@@ -162,13 +161,13 @@ module _ (d e f : List Node) (store : Objects) (es : List Event) (m n : Memory) 
     extends = extends_more d e f c.extends x;
     memory_in = memory_in;
     known_in = known_in;
-    form = subst (FormIn f) (sym more_is) (All-push (EventIn f) others other (form_in_stays e f others x c.form) other_in);
+    form = subst (FormIn f) (sym more_is) (All-push (EventIn f) others other (form_stays e f x others c.form) other_in);
     plain = subst (AreStatic f) (sym more_is) (All-push (λ (i : Event). IsStaticKind f i.kind) others other (all_static_stay e f x others c.plain) other_static);
     notes_in = subst (All (NoteIn f)) (sym noted_is) (All-push (NoteIn f) ns note (All-weaker (NoteIn e) (NoteIn f) (λ i h. note_in_stays e f i x h) ns c.notes_in) note_in);
     stands = λ v. subst (StandsFor v f n) (sym (behind_append store (seen v e others) (event_seen v f other)) ∙ ap (behind store) (sym (other_told v))) (behind_is v (behind store (seen v e others)) (c.stands v));
     notes =
         let all = notes_stay (λ v. store) e f others ns x c.form c.notes_in c.notes in
-        let same : (λ (v : ℕ → ℕ). behind store (seen v e others)) ≡ (λ v. behind store (seen v f others)) = λ i v. behind store (sym (seen_stays v e f others x c.form) i) in
+        let same : (λ (v : ℕ → ℕ). behind store (seen v e others)) ≡ (λ v. behind store (seen v f others)) = λ i v. behind store (sym (seen_stays e f x v others c.form) i) in
         let last : IsNote (λ v. behind store (seen v f others)) f other note = subst (λ (s : (ℕ → ℕ) → Objects). IsNote s f other note) same (is_note (λ v. behind store (seen v e others)) c.stands) in
         subst (AreNotes (λ v. store) f more) (sym noted_is) (subst (λ (xs : List Event). AreNotes (λ v. store) f xs (ns ++ note ∷ [])) (sym more_is) (notes_push (λ v. store) f others ns other note all last));
     agrees = agrees_more;
@@ -196,19 +195,22 @@ test_of_others d m e goal given first store own others es first_is store_is own_
     ∙ (λ i. agrees (first_is i) (checked (first_is i) (run_read v d (es_are i))) && breaks (checked (first_is i) (run_read v d (es_are i))))) test
 
 -- what is so of a formula over a form is so where the form is given
+abbrev HasRoom : Form → Type 0
+HasRoom g = length g.store + length g.events < 2 ^ 32
+
 by_form : (Q : (f : Form) → Type 0) (d : List Node) (f given : Form) (goal : (g : Form) → Type 0) (t : Thread) → f ≡ given
-    → (FormIn d f.events → AreStatic d f.events → goal f → AreObjects f.store → IsForm t.behaves d f.events → Q f)
-    → FormIn d given.events → AreStatic d given.events → goal given → AreObjects given.store → IsForm t.behaves d given.events → Q given
+    → (FormIn d f.events → HasRoom f → goal f → AreFirst f.store → IsForm t.behaves d f.events → Q f)
+    → FormIn d given.events → HasRoom given → goal given → AreFirst given.store → IsForm t.behaves d given.events → Q given
 by_form Q d f given goal t same made =
-    let P : Form → Type 0 = λ g. FormIn d g.events → AreStatic d g.events → goal g → AreObjects g.store → IsForm t.behaves d g.events → Q g in
+    let P : Form → Type 0 = λ g. FormIn d g.events → HasRoom g → goal g → AreFirst g.store → IsForm t.behaves d g.events → Q g in
     subst P same made
 
-pub formula_over : (d e : List Node) (f : Formula) (given : Form) (t : Thread) → f.form ≡ given → is_ordered d ≡ true → Extends d e → FormIn d given.events → AreStatic d given.events → IsTest e f.goal (λ v. breaks_in v d given) → AreObjects given.store → IsForm t.behaves d given.events
+pub formula_over : (d e : List Node) (f : Formula) (given : Form) (t : Thread) → f.form ≡ given → is_ordered e ≡ true → Extends d e → FormIn d given.events → HasRoom given → IsTest e f.goal (λ v. breaks_in v d given) → AreFirst given.store → IsForm t.behaves d given.events
     → IsFormula (first_world t given.store) e f
 formula_over d e f given t same ordered x =
-    by_form (λ g. IsFormula (first_world t g.store) e f) d f.form given (λ g. IsTest e f.goal (λ v. breaks_in v d g)) t same (λ there static test all form. is_formula d e f t ordered x there static all test form)
+    by_form (λ g. IsFormula (first_world t g.store) e f) d f.form given (λ g. IsTest e f.goal (λ v. breaks_in v d g)) t same (λ there room test first form. formula_is d e f t ordered x there room test first form)
 
-pub goal_over : (d e : List Node) (f : Formula) (given : Form) (t : Thread) → f.form ≡ given → is_ordered d ≡ true → Extends d e → FormIn d given.events → AreStatic d given.events → IsTest e f.goal (λ v. breaks_in v d given) → AreObjects given.store → IsForm t.behaves d given.events
+pub goal_over : (d e : List Node) (f : Formula) (given : Form) (t : Thread) → f.form ≡ given → is_ordered e ≡ true → Extends d e → FormIn d given.events → HasRoom given → IsTest e f.goal (λ v. breaks_in v d given) → AreFirst given.store → IsForm t.behaves d given.events
     → IsGoal (first_world t given.store) e f.goal (told_by e f.form)
 goal_over d e f given t same ordered x =
-    by_form (λ g. IsGoal (first_world t g.store) e f.goal (told_by e f.form)) d f.form given (λ g. IsTest e f.goal (λ v. breaks_in v d g)) t same (λ there static test all form. is_goal d e f t ordered x there static all test form)
+    by_form (λ g. IsGoal (first_world t g.store) e f.goal (told_by e f.form)) d f.form given (λ g. IsTest e f.goal (λ v. breaks_in v d g)) t same (λ there room test first form. goal_is d e f t ordered x there room test first form)

@@ -29,7 +29,7 @@ use Rattle.event_forms.specs.Accesses.{same_bytes}
 use Rattle.mem_seq.specs.Memories.{Written, put_from, value_or, byte_of, bytes_by, AreWith, AreIn}
 use Rattle.mem_seq.proofs.Written.{put_same, put_words, are_in_stay, value_or_stays, bytes_seen, if_true, is_less, pointer_is, stands_put, stands_by}
 use Rattle.mem_seq.proofs.WordTests.{more_words}
-use Rattle.mem_seq.proofs.Breaking.{values_bytes}
+use Rattle.event_forms.proofs.QuietRuns.{values_bytes}
 use Rattle.mem_seq.proofs.Building.{test_is}
 
 push_front : (xs : List ℕ) (x : ℕ) (ys : List ℕ) → (xs ++ x ∷ []) ++ ys ≡ xs ++ (x ∷ ys)

@@ -40,9 +40,10 @@ use Rattle.actions.specs.declared.action.Answer.TheVariants as answers
 use Rattle.event_forms.specs.Accesses.{same_bytes, is_given}
 use Rattle.event_forms.proofs.Accesses.{read_holds}
 use Rattle.mem_seq.specs.Goals.{gives}
-use Rattle.mem_seq.proofs.Stores.{left_true, right_true}
+use Rattle.event_forms.proofs.Stores.{left_true, right_true}
 use Rattle.mem_seq.proofs.WordTests.{equal_is, more_words}
-use Rattle.mem_seq.proofs.Breaking.{kind_stays, values_bytes}
+use Rattle.event_forms.proofs.Stays.{kind_seen_stays}
+use Rattle.event_forms.proofs.QuietRuns.{values_bytes}
 use Rattle.mem_seq.proofs.Held.{bytes_stay, bytes_there, bytes_push, size_push, values_push, one_on, widths_at, words_in_stay}
 
 -- ---- bytes
@@ -157,7 +158,7 @@ pub same_event : (v : ℕ → ℕ) (d d1 e : List Node) (ev : Event) (guard : Id
     → event_seen v e (record { guard = guard; line = ev.line; function = ev.function; kind = kind }) ≡ event_seen v d ev
 same_event v d d1 e ev guard kind x y within there guard_is kind_is =
     let g : value v e guard ≡ value v d ev.guard = y.value_stays v guard there ∙ guard_is in
-    let k : kind_seen v e ev.line ev.function kind ≡ kind_seen v d ev.line ev.function ev.kind = kind_is ∙ kind_stays v d d1 ev.line ev.function ev.kind x within.kind in
+    let k : kind_seen v e ev.line ev.function kind ≡ kind_seen v d ev.line ev.function ev.kind = kind_is ∙ kind_seen_stays d d1 x v ev.line ev.function ev.kind within.kind in
     λ i. if holds (g i) then k i else []
 
 pub event_made : (d d1 e : List Node) (ev : Event) (guard : Id) (kind : EventKind) → Extends d1 e → EventIn d ev → Within d1 guard → width d1 guard ≡ width d ev.guard → KindIn e kind → EventIn e (record { guard = guard; line = ev.line; function = ev.function; kind = kind })

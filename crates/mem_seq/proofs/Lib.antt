@@ -1,6 +1,3 @@
-pub mod Stores
-pub mod Alone
-pub mod Breaking
 pub mod Chaining
 pub mod Building
 pub mod Written

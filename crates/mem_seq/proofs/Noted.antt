@@ -30,7 +30,7 @@ use Rattle.mem_seq.specs.Goals.{breaks_or, breaks_from}
 use Rattle.mem_seq.specs.Notes.{NoteIn, IsNote, AreNotes}
 use Rattle.mem_seq.specs.Memories.{StandsFor, MemoryIn, written_in}
 use Rattle.mem_seq.proofs.Written.{stands_stay, break_same}
-use Rattle.mem_seq.proofs.Breaking.{event_stays}
+use Rattle.event_forms.proofs.Stays.{event_stays}
 use Rattle.event_forms.proofs.Behind.{behind_append}
 use Rattle.event_forms.proofs.Accesses.{read_class, read_stored, read_given, write_class, write_stored, write_given, draw_given}
 use Rattle.mem_seq.proofs.Building.{note_stays}
@@ -221,7 +221,7 @@ notes_stay stores d e [] (n ∷ ns) x form within h = absurd h
 notes_stay stores d e (ev ∷ es) [] x form within h = absurd h
 notes_stay stores d e (ev ∷ es) (n ∷ ns) x form within h =
     let here = All-head (EventIn d) ev es form in
-    let same : (λ (v : ℕ → ℕ). behind (stores v) (event_seen v d ev)) ≡ (λ v. behind (stores v) (event_seen v e ev)) = λ k v. behind (stores v) (sym (event_stays v d e ev x here) k) in (
+    let same : (λ (v : ℕ → ℕ). behind (stores v) (event_seen v d ev)) ≡ (λ v. behind (stores v) (event_seen v e ev)) = λ k v. behind (stores v) (sym (event_stays d e x v ev here) k) in (
       note_stays d e ev n stores x here (All-head (NoteIn d) n ns within) h.0,
       subst (λ (s : (ℕ → ℕ) → Objects). AreNotes s e es ns) same (notes_stay (λ v. behind (stores v) (event_seen v d ev)) d e es ns x (All-tail (EventIn d) ev es form) (All-tail (NoteIn d) n ns within) h.1),
     )

@@ -13,7 +13,7 @@ use Rattle.value_nodes.specs.Bytes.{sum_of_bytes}
 use Rattle.event_forms.specs.Runs.{bytes_of_words}
 use Rattle.event_forms.proofs.WordBytes.{number_is, number_padded, number_bytes, low_count}
 use Rattle.event_forms.specs.Accesses.{same_bytes}
-use Rattle.mem_seq.proofs.Stores.{same_itself, bytes_same}
+use Rattle.event_forms.proofs.Stores.{same_itself, bytes_same}
 
 -- ---- the number that bytes are
 

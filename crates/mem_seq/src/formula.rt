@@ -1,6 +1,6 @@
 //! The formula of one thread: its goal, and what each answer has to be.
 
-ghost use Rattle.std.specs.Prelude.{◌≡◌, ℕ, Bool, ◌&&◌, [], All, IfOk};
+ghost use Rattle.std.specs.Prelude.{◌≡◌, ◌+◌, ◌<◌, ◌^◌, ℕ, Bool, true, ◌&&◌, [], All, length, IfOk};
 ghost use Rattle.actions.specs.Behaviour.{Thread};
 ghost use Rattle.actions.specs.Objects.{Objects};
 ghost use Rattle.event_forms.specs.Forms.{EventIn, event_seen, FormIn, IsForm, IsStaticKind, AreStatic};
@@ -8,7 +8,7 @@ ghost use Rattle.interleave.specs.World.{first_world};
 ghost use Rattle.event_forms.specs.Goals.{IsGoal};
 ghost use Rattle.event_forms.specs.Formulas.{told_by, IsFormula, FormulaIn};
 ghost use Rattle.event_forms.specs.Forms.{run_read};
-ghost use Rattle.event_forms.specs.Accesses.{AreObjects, checked, agrees};
+ghost use Rattle.event_forms.specs.Accesses.{AreFirst, checked, agrees};
 ghost use Rattle.mem_seq.specs.Notes.{NoteIn, IsNote, AreNotes};
 ghost use Rattle.event_forms.specs.Turns.{breaks};
 ghost use Rattle.mem_seq.specs.Goals.{breaks_from};
@@ -118,9 +118,19 @@ fn goal(
     Ok(goal)
 }
 
+// Whether the number of each object that a run of the form makes is told by 32 bits.
+fn has_room(form: &ThreadForm) -> bool
+    ensures { result ≡ true → length form.now.store + length form.now.events < 2 ^ 32 }
+{
+    let objects = form.store().len();
+    let events = form.events().len();
+    objects < 4_294_967_296 && events < 4_294_967_296 - objects
+}
+
 /// The formula of the runs of one thread that break a check, over the form of the thread and from its store
 /// on. It keeps the form, so that each run of the thread has a valuation that tells it. The only error is that there is no
-/// memory. It doesn't say yet what accesses by pointers do, and the form has none.
+/// memory, or that objects and events are 2 ^ 32 or more. It doesn't say yet what accesses by pointers do, and the form has
+/// none.
 pub fn sequential(
     alloc: Global,
     dag: &mut Dag,
@@ -133,12 +143,15 @@ pub fn sequential(
     ensures within { IfOk result (λ f. FormulaIn dag.new f) }
     ensures plain { IfOk result (λ f. AreStatic dag.new f.form.events) }
     ensures form { IfOk result (λ f. (t : Thread) → IsForm t.behaves dag.old form.now.events → IsForm t.behaves dag.new f.form.events) }
-    ensures formula { IfOk result (λ f. (t : Thread) → AreObjects form.now.store → IsForm t.behaves dag.old form.now.events → IsFormula (first_world t form.now.store) dag.new f) }
-    ensures runs { IfOk result (λ f. (t : Thread) → AreObjects form.now.store → IsForm t.behaves dag.old form.now.events → IsGoal (first_world t form.now.store) dag.new f.goal (told_by dag.new f.form)) }
+    ensures formula { IfOk result (λ f. (t : Thread) → AreFirst form.now.store → IsForm t.behaves dag.old form.now.events → IsFormula (first_world t form.now.store) dag.new f) }
+    ensures runs { IfOk result (λ f. (t : Thread) → AreFirst form.now.store → IsForm t.behaves dag.old form.now.events → IsGoal (first_world t form.now.store) dag.new f.goal (told_by dag.new f.form)) }
 {
-    let _ = dag.nodes();
+    if !has_room(form) {
+        return Err(AllocError);
+    }
     let noted = notes(alloc, dag, form.store(), form.events())?;
     let goal = goal(alloc, dag, form.store(), &noted.events, &noted.notes)?;
+    let _ = dag.nodes();
     Ok(Formula {
         goal,
         form: form.copied(alloc)?,

@@ -15,10 +15,10 @@ returns-clause-form c = λ t form.
 
 pub returns-clause-formula : goal.returns-clause-formula
 returns-clause-formula c = λ t all form.
-    formula_over c.args.dag.now c.goal.new.dag _ c.args.form.now t c.in_ok-copied.ensures c.nodes.ensures.ordered (extends_more c.args.dag.now c.notes.new.dag c.goal.new.dag c.notes.ensures.extends c.goal.ensures.extends) c.requires.within c.requires.plain
+    formula_over c.args.dag.now c.goal.new.dag _ c.args.form.now t c.in_ok-copied.ensures c.nodes.ensures.ordered (extends_more c.args.dag.now c.notes.new.dag c.goal.new.dag c.notes.ensures.extends c.goal.ensures.extends) c.requires.within (c.has_room.ensures c.if-not-has_room.false)
     (test_of_others c.args.dag.now c.notes.new.dag c.goal.new.dag c.in_ok-goal.goal c.args.form.now _ _ _ _ _ c.store.ensures c.store-2.ensures c.deref.ensures.value c.events.ensures c.in_ok-noted.ensures.same c.in_ok-goal.ensures.made) all form
 
 pub returns-clause-runs : goal.returns-clause-runs
 returns-clause-runs c = λ t all form.
-    goal_over c.args.dag.now c.goal.new.dag _ c.args.form.now t c.in_ok-copied.ensures c.nodes.ensures.ordered (extends_more c.args.dag.now c.notes.new.dag c.goal.new.dag c.notes.ensures.extends c.goal.ensures.extends) c.requires.within c.requires.plain
+    goal_over c.args.dag.now c.goal.new.dag _ c.args.form.now t c.in_ok-copied.ensures c.nodes.ensures.ordered (extends_more c.args.dag.now c.notes.new.dag c.goal.new.dag c.notes.ensures.extends c.goal.ensures.extends) c.requires.within (c.has_room.ensures c.if-not-has_room.false)
     (test_of_others c.args.dag.now c.notes.new.dag c.goal.new.dag c.in_ok-goal.goal c.args.form.now _ _ _ _ _ c.store.ensures c.store-2.ensures c.deref.ensures.value c.events.ensures c.in_ok-noted.ensures.same c.in_ok-goal.ensures.made) all form

@@ -6,7 +6,7 @@ use Rattle.event_forms.specs.Accesses.{behind}
 use Rattle.mem_seq.specs.Goals.{gives}
 use Rattle.mem_seq.specs.Memories.{StandsFor, written_in}
 use Rattle.mem_seq.proofs.Written.{stands_stay}
-use Rattle.mem_seq.proofs.Breaking.{event_stays}
+use Rattle.event_forms.proofs.Stays.{event_stays}
 use Rattle.mem_seq.proofs.Building.{event_in_stays, static_kind_stays}
 use Rattle.mem_seq.proofs.memory.follow.Goals as goal
 
@@ -30,13 +30,13 @@ returns-clause-note c = λ stores stands.
 pub returns-clause-behind : goal.returns-clause-behind
 returns-clause-behind c = λ v objects stands.
     subst (λ (told : List Seen). StandsFor v c.note.new.dag c.note.new.self (behind objects told))
-    (sym (event_stays v c.learn.new.dag c.note.new.dag c.in_ok-other.other c.note.ensures.extends (event_in_stays c.replaced.new.dag c.learn.new.dag c.in_ok-other.other c.learn.ensures.extends c.in_ok-other.ensures.event)))
+    (sym (event_stays c.learn.new.dag c.note.new.dag c.note.ensures.extends v c.in_ok-other.other (event_in_stays c.replaced.new.dag c.learn.new.dag c.in_ok-other.other c.learn.ensures.extends c.in_ok-other.ensures.event)))
     (c.in_ok-note.ensures.behind v objects
     (stands_stay v c.args.dag.now c.learn.new.dag (written_in c.args.memory.now) c.args.memory.now.store.now objects (extends_more c.args.dag.now c.replaced.new.dag c.learn.new.dag c.replaced.ensures.extends c.learn.ensures.extends) c.requires.memory stands))
 
 pub returns-clause-same : goal.returns-clause-same
 returns-clause-same c = λ v agrees.
-    event_stays v c.replaced.new.dag c.note.new.dag c.in_ok-other.other (extends_more c.replaced.new.dag c.learn.new.dag c.note.new.dag c.learn.ensures.extends c.note.ensures.extends) c.in_ok-other.ensures.event ∙ c.in_ok-other.ensures.same v agrees
+    event_stays c.replaced.new.dag c.note.new.dag (extends_more c.replaced.new.dag c.learn.new.dag c.note.new.dag c.learn.ensures.extends c.note.ensures.extends) v c.in_ok-other.other c.in_ok-other.ensures.event ∙ c.in_ok-other.ensures.same v agrees
 
 pub returns-clause-agrees : goal.returns-clause-agrees
 returns-clause-agrees c = λ v objects stands told agrees.
