@@ -1,8 +1,6 @@
--- What suffixes derive from behind the last on, and lines of declarators.
+-- What suffixes derive from behind the last on.
 use Rattle.std.proofs.Common.{◌≡◌, ◌+◌, ◌*◌, ◌<◌, ℕ, zero, suc, Bool, true, false, List, [], ◌∷◌, length, get_or, drop, Result, Err, refl, ap, sym, subst, ◌∙◌, arith}
 use Rattle.std.specs.Prelude.{◌==◌, ◌&&◌, if◌then◌else◌}
-use Rattle.c_tree.specs.declared.declaration.DeclaratorSuffix.{DeclaratorSuffix, Bounded, Open, Empty, Void, Parameters'}
-use Rattle.c_tree.specs.Declarations.{Parts, FullSuffixes, full_unnamed, view_full_suffix, full_suffixes_of, parts_line}
 use Rattle.c_types.specs.declared.types.Ty.{Ty}
 use Rattle.c_types.specs.Types.{CType, Completed, views}
 use Rattle.c_types.specs.Types as ctypes
@@ -11,8 +9,7 @@ use Rattle.c_scope.specs.declared.fault.Broken.{Broken}
 use Rattle.c_scope.specs.declared.fault.Broken.TheVariants as broken
 use Rattle.c_scope.specs.Faults.{◌>>=◌, Breaks, GivesNode}
 use Rattle.c_elab_base.specs.declared.derivations.Derived.{Derived as CodeDerived}
-use Rattle.c_elab_base.specs.Derivations.{Shape, Derived, counted, called, array_shape, function_shape, derived, view_derived, view_deriveds, suffixes_line, parameter_line}
-use Rattle.c_elab_base.proofs.Lists.{more_than_none}
+use Rattle.c_elab_base.specs.Derivations.{Shape, Derived, counted, called, array_shape, function_shape, derived, view_derived, view_deriveds}
 use Rattle.c_elab_base.proofs.Steps.{list_at}
 
 -- ---- faults
@@ -40,23 +37,6 @@ pub shape_fails : (done : List Completed) (constant : Bool) (base : Shape) (ds :
 shape_fails done constant base ds n d e h is bad =
     breaks_on e (derived done constant base (view_derived d ∷ view_deriveds (drop (n + 1) ds))) (derived done constant base (view_deriveds ds))
     (λ rule g. derived_fails done constant base n ds rule (ap (derived done constant base) (list_at view_derived ds n d h is) ∙ g)) bad
-
--- ---- lines
-
-pub empty_line : (parts : Parts) (xs : List DeclaratorSuffix) → (length xs == 0) ≡ true → parameter_line parts (full_unnamed (full_suffixes_of xs)) ≡ parts_line parts
-empty_line parts [] h = refl
-empty_line parts (x ∷ xs) h = let no : false ≡ true = sym (more_than_none (length xs)) ∙ h in let none : ⊥ = cc in absurd none
-
-one_line : (parts : Parts) (x : DeclaratorSuffix) (rest : FullSuffixes) → parameter_line parts (full_unnamed (view_full_suffix x rest)) ≡ suffixes_line (view_full_suffix x rest)
-one_line parts (Bounded line e) rest = refl
-one_line parts (Open line) rest = refl
-one_line parts (Empty line) rest = refl
-one_line parts (Void line) rest = refl
-one_line parts (Parameters' line shape ps variadic) rest = refl
-
-pub suffix_line : (parts : Parts) (xs : List DeclaratorSuffix) → (length xs == 0) ≡ false → parameter_line parts (full_unnamed (full_suffixes_of xs)) ≡ suffixes_line (full_suffixes_of xs)
-suffix_line parts [] h = let none : ⊥ = cc in absurd none
-suffix_line parts (x ∷ xs) h = one_line parts x (full_suffixes_of xs)
 
 -- ---- sizes
 

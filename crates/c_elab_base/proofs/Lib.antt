@@ -2,6 +2,7 @@ pub mod Steps
 pub mod Lists
 pub mod Alone
 pub mod Deriving
+pub mod Pointed
 pub mod Comparing
 pub mod Signatures
 pub mod Parameters

@@ -1,7 +1,7 @@
 -- What the suffixes of declarators make of a type (C11 6.7.6.2, 6.7.6.3).
 use Rattle.std.specs.Prelude.{ℕ, ◌||◌, Bool, true, false, List, [], ◌∷◌, map, slice_get, Option, Some, None, option_map, Result, Ok, Err, if◌then◌else◌}
 use Rattle.std.specs.List.{list_any, list_all}
-use Rattle.c_tree.specs.Declarations.{Full, full_unnamed, full_named, full_inside, FullSuffixes, full_end, full_bounded, full_open, full_empty, full_void, full_parameters, Parts, parts_line}
+use Rattle.c_tree.specs.Declarations.{Full, full_unnamed, full_named, full_inside, full_pointing, FullSuffixes, full_end, full_bounded, full_open, full_empty, full_void, full_parameters, Parts, parts_line}
 use Rattle.c_tree.specs.Files.{full_is_empty}
 use Rattle.c_types.specs.Types.{CType, void, integer, aggregate, array, pointer, function as function_at, Completed, view}
 use Rattle.c_scope.specs.Scopes.{Named, FunctionType, FunctionTable, function_number, view_named, view_function_type}
@@ -31,12 +31,14 @@ abbrev pub full_line : Full → ℕ
 full_line (full_unnamed suffixes) = suffixes_line suffixes
 full_line (full_named line n suffixes) = line
 full_line (full_inside line d suffixes) = line
+full_line (full_pointing line qs d) = line
 
 -- the line of its name
 abbrev pub name_line : Full → ℕ
 name_line (full_unnamed suffixes) = 0
 name_line (full_named line n suffixes) = line
 name_line (full_inside line d suffixes) = name_line d
+name_line (full_pointing line qs d) = name_line d
 
 -- a parameter without declarator has the line of its specifiers
 abbrev pub parameter_line : Parts → Full → ℕ

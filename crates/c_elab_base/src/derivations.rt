@@ -1,13 +1,14 @@
 //! What the suffixes of declarators make of a type.
 ghost use Rattle.std.specs.Prelude.{◌≡◌, ℕ, List, ◌∷◌, map, option_map, IfOk, Result, Ok};
-ghost use Rattle.c_tree.specs.Declarations.{view_full, full_suffixes_of, part_line, parts_line, view_part, parts_of};
+ghost use Rattle.c_tree.specs.Declarations.{Full, full_behind, view_full, full_suffixes_of, part_line, parts_line, view_part, parts_of};
+ghost use Rattle.c_tree.specs.Files.{full_is_empty};
 ghost use Rattle.c_types.specs.Types.{view};
 ghost use Rattle.c_scope.specs.Scopes.{view_named, view_function_type, function_number};
 ghost use Rattle.c_scope.specs.Faults.{GivesNode};
 ghost use Rattle.c_elab_base.specs.Derivations.{Derived as SpecDerived, Shape as SpecShape, suffixes_line, type_numbered, full_line, name_line, parameter_line, view_parameters, view_derived, view_deriveds, view_shape, view_derivation, shape_of, array_shape, is_void, is_array, has_void, parameter_types, function_shape, derived, function_made, plain_lengths, callable_by, derivation};
 
 use c_scope::{Broken, FunctionType, QualifiedType, Scope, one_array};
-use c_tree::{DeclaratorSuffix, FullDeclarator, Specifier, TypeSpecifier};
+use c_tree::{DeclaratorSuffix, FullDeclarator, PointerMark, Specifier, TypeSpecifier};
 use c_types::{Layouts, Ty};
 use std::alloc::{AllocError, Global};
 
@@ -85,14 +86,26 @@ fn suffixes_line(suffixes: &[DeclaratorSuffix]) -> u32
     }
 }
 
+// The line of the first of pointers, or of what stands behind them.
+fn pointers_line(pointers: &[PointerMark], behind: u32) -> u32
+    ensures { (d : Full) → behind ≡ full_line d → result ≡ full_line (full_behind pointers.now d) }
+{
+    match pointers {
+        [first, ..] => first.line,
+        [] => behind,
+    }
+}
+
 /// The line of a declarator's first token, 0 where it is empty.
 pub fn full_line(declarator: &FullDeclarator) -> u32
     ensures { result ≡ full_line (view_full declarator.now) }
 {
     match declarator {
-        FullDeclarator::Unnamed { suffixes } => suffixes_line(suffixes),
-        FullDeclarator::Named { line, .. } => *line,
-        FullDeclarator::Inside { line, .. } => *line,
+        FullDeclarator::Unnamed { pointers, suffixes } => {
+            pointers_line(pointers, suffixes_line(suffixes))
+        }
+        FullDeclarator::Named { pointers, line, .. } => pointers_line(pointers, *line),
+        FullDeclarator::Inside { pointers, line, .. } => pointers_line(pointers, *line),
     }
 }
 
@@ -107,19 +120,27 @@ pub fn name_line(declarator: &FullDeclarator) -> u32
     }
 }
 
+// No pointer, name or suffix stands in a declarator.
+fn is_empty(declarator: &FullDeclarator) -> bool
+    ensures { result ≡ full_is_empty (view_full declarator.now) }
+{
+    match declarator {
+        FullDeclarator::Unnamed { pointers, suffixes } => {
+            pointers.is_empty() && suffixes.is_empty()
+        }
+        FullDeclarator::Named { .. } => false,
+        FullDeclarator::Inside { .. } => false,
+    }
+}
+
 /// The line of a parameter's declarator, or of its specifiers where that is empty.
 pub fn parameter_line(specifiers: &[Specifier], declarator: &FullDeclarator) -> u32
     ensures { result ≡ parameter_line (parts_of specifiers.now) (view_full declarator.now) }
 {
-    match declarator {
-        FullDeclarator::Unnamed { suffixes } => {
-            if suffixes.is_empty() {
-                parts_line(specifiers)
-            } else {
-                suffixes_line(suffixes)
-            }
-        }
-        _ => full_line(declarator),
+    if is_empty(declarator) {
+        parts_line(specifiers)
+    } else {
+        full_line(declarator)
     }
 }
 
