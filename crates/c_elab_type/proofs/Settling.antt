@@ -6,7 +6,7 @@ use Rattle.std.proofs.lemmas.List.{append_assoc, append-nil, length-append, map-
 use Rattle.c_tree.specs.declared.specifier.TagKind.{TagKind}
 use Rattle.c_tree.specs.declared.specifier.TagKind.TheVariants as tag_kinds
 use Rattle.c_tree.specs.Tree.{TypePart, qualified, word, tagged, typedef_name}
-use Rattle.c_tree.specs.Declarations.{Enumerated, Part, type_part, storage, function, structure, enumeration, Parts, no_part, part, Members, no_member, members, Full, full_unnamed, full_named, full_inside, Fulls, no_full, full, FullSuffixes, full_end, full_bounded, full_open, full_empty, full_void, full_parameters, Parameters, no_parameter, parameter, Declarators, name_of, full_has_name, parts_line}
+use Rattle.c_tree.specs.Declarations.{Enumerated, Part, type_part, storage, function, structure, enumeration, Parts, no_part, part, Members, no_member, members, Full, full_unnamed, full_named, full_inside, full_pointing, Fulls, no_full, full, FullSuffixes, full_end, full_bounded, full_open, full_empty, full_void, full_parameters, Parameters, no_parameter, parameter, Declarators, name_of, full_has_name, parts_line}
 use Rattle.c_types.specs.declared.types.RecordKind.{RecordKind}
 use Rattle.c_types.specs.declared.types.RecordKind.TheVariants.{Struct, Union}
 use Rattle.c_types.specs.Types.{CType, Completed, Records}
@@ -321,6 +321,7 @@ named_so : (d : Full) → is_named_so (name_of d) ≡ true → full_has_name d �
 named_so (full_unnamed suffixes) h = let none : ⊥ = cc in absurd none
 named_so (full_named line n suffixes) h = refl
 named_so (full_inside line d suffixes) h = named_so d h
+named_so (full_pointing line qs d) h = named_so d h
 
 names_last : (ps : List Parameter) (p : Parameter) → have_names (ps ++ p ∷ []) ≡ true → (have_names ps ≡ true) × (is_named_so p.name ≡ true)
 names_last [] p h = (refl, (both (is_named_so p.name) true h).0)
@@ -494,6 +495,7 @@ mutual
         settles = settles_trans s inner.1 outer.1 f.settles g.settles;
         fine = λ there. fine_behind outer.1.records.done inner.0 outer.0 (fine_kept g.settles.follows.calls.later inner.0 (f.fine there)) (g.fine (f.settles.follows.there there));
       })))
+  full_settles s (full_pointing line qs d) = refused (SuffixesDone s) _
 
   pub suffixes_settle : (s : Scoped) (x : FullSuffixes) → Holds (SuffixesDone s) (typed_suffixes s x)
   suffixes_settle s full_end = given (SuffixesDone s) ([], s) (record { settles = settles_refl s; fine = λ there. refl })

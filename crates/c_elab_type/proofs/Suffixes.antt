@@ -4,15 +4,17 @@ use Rattle.std.specs.Global.{Global}
 use Rattle.std.specs.Prelude.{◌==◌, ◌&&◌, Vec, vec_len, is_some, nat_lt, if◌then◌else◌}
 use Rattle.std.proofs.lemmas.List.{append_assoc, drop_more, map-append}
 use Rattle.std.proofs.lemmas.Bool.{lt-ltb, le-ltb}
+use Rattle.c_tree.specs.declared.expr.PointerMark.{PointerMark}
 use Rattle.c_tree.specs.declared.declaration.FullDeclarator.{FullDeclarator}
 use Rattle.c_tree.specs.declared.declaration.DeclaratorSuffix.{DeclaratorSuffix, Bounded, Open, Empty, Void, Parameters'}
 use Rattle.c_tree.specs.declared.declaration.Parameter.{Parameter as ParameterTree}
-use Rattle.c_tree.specs.Declarations.{Parts, members, no_member, parts_line, name_of, full_has_name, Full, Fulls, full, FullSuffixes, full_end, Parameters, no_parameter, view_full, fulls_of, view_full_suffix, full_suffixes_of, view_parameters, view_parameter, parameters_of, parts_of}
+use Rattle.c_tree.specs.Declarations.{Parts, members, no_member, parts_line, name_of, full_has_name, Full, full_behind, Fulls, full, FullSuffixes, full_end, Parameters, no_parameter, view_full, fulls_of, view_full_suffix, full_suffixes_of, view_parameters, view_parameter, parameters_of, parts_of}
 use Rattle.c_tree.specs.Tree.{view}
 use Rattle.c_scope.specs.Scopes.{Named, Scoped}
 use Rattle.c_scope.specs.Faults.{◌>>=◌, Fault, on_line, Fails}
 use Rattle.c_types.specs.Types.{CType, Completed}
 use Rattle.c_scope.specs.Types.{specified_type, array_of, element_type, type_size}
+use Rattle.c_elab_expr.specs.Typing.{RefusesFirst}
 use Rattle.c_elab_expr.proofs.WellTyped.{Holds, bind, given, refused, on_same_line}
 use Rattle.c_elab_base.specs.Declarators.{complete_type, sized_type}
 use Rattle.c_elab_base.specs.declared.regions.Region.{Region}
@@ -117,6 +119,16 @@ suffix_more before mid d s t x rest e list = ap (suffixes_first before) (one_suf
 pub first_fails : (before : List Derived) (r : Derivations) (f : Fault) → suffixes_first before r ≡ Err f → r ≡ Err f
 first_fails before (Ok y) f e = let none : ⊥ = cc in absurd none
 first_fails before (Err g) f e = let same : g ≡ f = cc in ap Err same
+
+-- ---- pointers
+
+-- pointers before a declarator are refused
+pub full_refused : (e : TypingError) (s : Scoped) (ps : List PointerMark) (d : Full) → RefusesFirst e ps → Fails e (typed_full s (full_behind ps d))
+full_refused e s [] d h = absurd h
+full_refused e s (p ∷ ps) d h = subst (λ (x : TypingError). Fails x (typed_full s (full_behind (p ∷ ps) d))) (sym h) refl
+
+pub no_pointers : (ps : List PointerMark) (d : Full) → ps ≡ [] → full_behind ps d ≡ d
+no_pointers ps d e = ap (λ (qs : List PointerMark). full_behind qs d) e
 
 -- ---- members
 

@@ -1,6 +1,6 @@
 -- Initializers (C11 6.7.9).
 use Rattle.std.specs.Prelude.{ℕ, suc, ◌+◌, ◌-◌, ◌++◌, is_some, not, ◌&&◌, ◌||◌, nat_le, Bool, true, false, List, [], ◌∷◌, length, reverse, Option, Some, None, Result, Ok, Err, if◌then◌else◌}
-use Rattle.c_tree.specs.Tree.{Tree, constant, character, strings, name, parens, unary, cast, sizeof_expr, sizeof_type, step, member, binary, choice, assign, comma, call}
+use Rattle.c_tree.specs.Tree.{Tree, constant, character, strings, name, parens, unary, cast, sizeof_expr, sizeof_type, step, member, binary, choice, assign, comma, call, address, dereference, arrow, subscript}
 use Rattle.c_tree.specs.Declarations.{Initial, initial, braces, Initials, no_initial, initials}
 use Rattle.c_types.specs.declared.integers.IntegerType.{IntegerType}
 use Rattle.c_types.specs.declared.integers.IntegerType.TheVariants as types
@@ -155,11 +155,15 @@ literal_of (strings line parts) = Some (line, parts)
 literal_of (name line n) = None
 literal_of (parens line e) = None
 literal_of (unary line op e) = None
+literal_of (address line e) = None
+literal_of (dereference line e) = None
 literal_of (cast line parts d e) = None
 literal_of (sizeof_expr line e) = None
 literal_of (sizeof_type line parts d) = None
 literal_of (step line op e) = None
 literal_of (member line e n) = None
+literal_of (arrow line e n) = None
+literal_of (subscript line a b) = None
 literal_of (binary line op a b) = None
 literal_of (choice line test a b) = None
 literal_of (assign line op a b) = None

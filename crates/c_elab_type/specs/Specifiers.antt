@@ -1,10 +1,10 @@
 -- Specifiers, the members and enumerators in them, and declarators with the parameters in them (C11 6.7, 6.7.2.1, 6.7.6).
-use Rattle.std.specs.Prelude.{ℕ, ◌++◌, Bool, false, List, [], Option, Some, None, Result, Ok}
+use Rattle.std.specs.Prelude.{ℕ, ◌++◌, Bool, false, List, [], Option, Some, None, Result, Ok, Err}
 use Rattle.c_tree.specs.declared.declaration.RecordKind.{RecordKind as TreeKind}
 use Rattle.c_tree.specs.Tree.{Tree, first_line}
-use Rattle.c_tree.specs.Declarations.{Enumerated, Part, type_part, storage, function, structure, enumeration, Parts, no_part, part, Members, no_member, members, Full, full_unnamed, full_named, full_inside, Fulls, no_full, full, FullSuffixes, full_end, full_bounded, full_open, full_empty, full_void, full_parameters, Parameters, no_parameter, parameter, Declarators, parts_line}
+use Rattle.c_tree.specs.Declarations.{Enumerated, Part, type_part, storage, function, structure, enumeration, Parts, no_part, part, Members, no_member, members, Full, full_unnamed, full_named, full_inside, full_pointing, Fulls, no_full, full, FullSuffixes, full_end, full_bounded, full_open, full_empty, full_void, full_parameters, Parameters, no_parameter, parameter, Declarators, parts_line}
 use Rattle.c_scope.specs.Scopes.{Named, Scoped, view_named}
-use Rattle.c_scope.specs.Faults.{◌>>=◌, Fault, on_line}
+use Rattle.c_scope.specs.Faults.{◌>>=◌, Fault, fault, on_line}
 use Rattle.c_scope.specs.Types.{nothing_specified, with_storage, specified_type}
 use Rattle.c_elab_expr.specs.Typing.{bound, operand}
 use Rattle.c_elab_base.specs.declared.regions.Region.{Region}
@@ -63,6 +63,7 @@ abbrev mutual
     inner ← typed_full s d
     outer ← typed_suffixes inner.1 suffixes
     Ok (inner.0 ++ outer.0, outer.1)
+  typed_full s (full_pointing line qs d) = Err (fault line 7)
 
   pub typed_suffixes : Scoped → FullSuffixes → Derivations
   typed_suffixes s full_end = Ok ([], s)

@@ -16,7 +16,7 @@ use c_elab_base::{
     has_untagged, is_anonymous, kind_of, lone_tag, opened, parameter_line, parameter_type,
     parts_line, reopened, role_of, typed_type_part, with_lone, with_member,
 };
-use c_elab_expr::bound;
+use c_elab_expr::{bound, no_pointers};
 use c_scope::{Field, QualifiedType, Scope, Specified, TypingError};
 use c_tree::{
     DeclaratorSuffix, Enumerator, FullDeclarator, InitDeclarator, MemberDeclaration, Name,
@@ -292,13 +292,25 @@ fn add_full(
     ensures grows { OnOk result (length scope.old.records.declared ≤ length scope.new.records.declared) }
 {
     match declarator {
-        FullDeclarator::Unnamed { suffixes } => add_suffixes(alloc, suffixes, scope, found),
-        FullDeclarator::Named { suffixes, .. } => add_suffixes(alloc, suffixes, scope, found),
+        FullDeclarator::Unnamed { pointers, suffixes } => {
+            no_pointers(pointers)?;
+            add_suffixes(alloc, suffixes, scope, found)
+        }
+        FullDeclarator::Named {
+            pointers,
+            suffixes,
+            ..
+        } => {
+            no_pointers(pointers)?;
+            add_suffixes(alloc, suffixes, scope, found)
+        }
         FullDeclarator::Inside {
+            pointers,
             inner,
             suffixes,
             ..
         } => {
+            no_pointers(pointers)?;
             add_full(alloc, inner, scope, found)?;
             add_suffixes(alloc, suffixes, scope, found)
         }

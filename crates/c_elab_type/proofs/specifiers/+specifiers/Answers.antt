@@ -2,7 +2,7 @@ use Rattle.std.proofs.Common.{◌≡◌, List, Result, option_map, sym, ap, subs
 use Rattle.c_tree.specs.declared.declaration.Specifier.{Specifier}
 use Rattle.c_tree.specs.declared.declaration.MemberDeclaration.{MemberDeclaration}
 use Rattle.c_tree.specs.Tree.{view_name}
-use Rattle.c_tree.specs.Declarations.{view_part, parts_of, parts_line, members, no_member, members_of, name_of, full_has_name, FullSuffixes, full_end, full_parameters, no_parameter, view_full, fulls_of, view_full_suffix, full_suffixes_of, parameters_of, view_parameter as view_parameter_tree}
+use Rattle.c_tree.specs.Declarations.{view_part, parts_of, parts_line, members, no_member, members_of, name_of, full_has_name, full_unnamed, full_named, full_inside, FullSuffixes, full_end, full_parameters, no_parameter, view_full, fulls_of, view_full_suffix, full_suffixes_of, parameters_of, view_parameter as view_parameter_tree}
 use Rattle.c_tree.proofs.DeclarationViews.{view_record, view_unnamed, view_named as view_named_full, view_inside, view_takes}
 use Rattle.c_scope.specs.Faults.{Fault, Gives, on_line, ◌>>=◌}
 use Rattle.c_elab_base.specs.Specifiers.{Parted, Fields, is_none, has_untagged, said_before, with_field, fields_behind, called_in_front, ended, view_parted, Passed, are_several, inner_region, with_member, view_typed}
@@ -29,7 +29,8 @@ use Rattle.c_elab_type.specs.Steps.{suffixes_first}
 use Rattle.c_elab_type.proofs.specifiers.+specifiers.Goals.{typed_line-then-alone+then-has_untagged+in_ok-copied+in_ok-add_field, typed_line-else-alone, typed_line-else-alone-via-then-alone+else-has_untagged, typed_line-else-alone-via-else-alone}
 use Rattle.c_elab_type.proofs.specifiers.+specifiers.Goals as goal
 use Rattle.c_elab_base.proofs.Steps.{fails_on, fails_bind, fails_along, gives_err}
-use Rattle.c_elab_type.proofs.Suffixes.{fulls_at, suffixes_at, parameters_at, field_more, field_fails, full_fails, joined, derives_both, derives_as, derives_fault, derives_one, suffix_fails, first_fails, parameter_more, parameter_fails, line_parts_fail, line_type_fails, line_is, none_declared, with_it, without_it, several_are, parameter_sized}
+use Rattle.c_elab_expr.specs.Typing.{RefusesFirst}
+use Rattle.c_elab_type.proofs.Suffixes.{full_refused, no_pointers, fulls_at, suffixes_at, parameters_at, field_more, field_fails, full_fails, joined, derives_both, derives_as, derives_fault, derives_one, suffix_fails, first_fails, parameter_more, parameter_fails, line_parts_fail, line_type_fails, line_is, none_declared, with_it, without_it, several_are, parameter_sized}
 use Rattle.c_elab_type.proofs.Ending.{names_within, variables_within, names_there, suffix_ends, names_now, variables_now}
 
 pub typed_part-returns-in-Record-clause-gives : goal.typed_part-returns-in-Record-clause-gives
@@ -119,29 +120,62 @@ typed_fields-returns-clause-gives t c =
 
 -- ---- suffixes
 
-pub add_full-returns-in-Unnamed-clause-gives : goal.add_full-returns-in-Unnamed-clause-gives
-add_full-returns-in-Unnamed-clause-gives t c =
+pub add_full-returns-in_err-no_pointers-in-Unnamed-clause-gives : goal.add_full-returns-in_err-no_pointers-in-Unnamed-clause-gives
+add_full-returns-in_err-no_pointers-in-Unnamed-clause-gives t c =
+    let p = err_from_is_err_and c.from_residual.result c.from_residual.ensures.1 in
     let s = c.args.scope.now in
-    let same = ap (λ (xs : List DeclaratorSuffix). typed_suffixes s (full_suffixes_of xs)) c.deref.ensures.value
-    ∙ sym (ap (typed_full s) (ap view_full c.in-Unnamed.is ∙ view_unnamed c.in-Unnamed.suffixes)) in
-    derives_as c.add_suffixes.result c.add_suffixes.new.scope c.args.found.now.items c.add_suffixes.new.found.items (typed_suffixes s (full_suffixes_of c.deref.result.now)) (typed_full s (view_full c.args.declarator.now)) same c.add_suffixes.ensures.gives
+    let e = c.in_err-no_pointers-in-Unnamed.field-0.0 in
+    let shape = ap (typed_full s) (ap view_full c.in-Unnamed.is ∙ view_unnamed c.in-Unnamed.pointers c.in-Unnamed.suffixes) in
+    let first = subst (RefusesFirst e) c.deref.ensures.value c.in_err-no_pointers-in-Unnamed.ensures.first in
+    derives_fault c.from_residual.result p.0 e s c.args.found.now.items c.args.found.now.items (typed_full s (view_full c.args.declarator.now)) p.1 p.2
+    (fails_along e _ (typed_full s (view_full c.args.declarator.now)) (sym shape) (full_refused e s c.in-Unnamed.pointers.items (full_unnamed (full_suffixes_of c.in-Unnamed.suffixes.items)) first))
 
-pub add_full-returns-in-Named-clause-gives : goal.add_full-returns-in-Named-clause-gives
-add_full-returns-in-Named-clause-gives t c =
+pub add_full-returns-in_err-no_pointers-in-Named-clause-gives : goal.add_full-returns-in_err-no_pointers-in-Named-clause-gives
+add_full-returns-in_err-no_pointers-in-Named-clause-gives t c =
+    let p = err_from_is_err_and c.from_residual-in_err-no_pointers-in-Named.result c.from_residual-in_err-no_pointers-in-Named.ensures.1 in
     let s = c.args.scope.now in
-    let same = ap (λ (xs : List DeclaratorSuffix). typed_suffixes s (full_suffixes_of xs)) c.deref-in-Named.ensures.value
-    ∙ sym (ap (typed_full s) (ap view_full c.in-Named.is ∙ view_named_full c.in-Named.line c.in-Named.name c.in-Named.suffixes)) in
-    derives_as c.add_suffixes-in-Named.result c.add_suffixes-in-Named.new.scope c.args.found.now.items c.add_suffixes-in-Named.new.found.items (typed_suffixes s (full_suffixes_of c.deref-in-Named.result.now)) (typed_full s (view_full c.args.declarator.now)) same c.add_suffixes-in-Named.ensures.gives
+    let e = c.in_err-no_pointers-in-Named.field-0.0 in
+    let shape = ap (typed_full s) (ap view_full c.in-Named.is ∙ view_named_full c.in-Named.pointers c.in-Named.line c.in-Named.name c.in-Named.suffixes) in
+    let first = subst (RefusesFirst e) c.deref-in-Named.ensures.value c.in_err-no_pointers-in-Named.ensures.first in
+    derives_fault c.from_residual-in_err-no_pointers-in-Named.result p.0 e s c.args.found.now.items c.args.found.now.items (typed_full s (view_full c.args.declarator.now)) p.1 p.2
+    (fails_along e _ (typed_full s (view_full c.args.declarator.now)) (sym shape) (full_refused e s c.in-Named.pointers.items (full_named c.in-Named.line (view_name c.in-Named.name) (full_suffixes_of c.in-Named.suffixes.items)) first))
+
+pub add_full-returns-in_err-no_pointers-in-Inside-clause-gives : goal.add_full-returns-in_err-no_pointers-in-Inside-clause-gives
+add_full-returns-in_err-no_pointers-in-Inside-clause-gives t c =
+    let p = err_from_is_err_and c.from_residual-in_err-no_pointers-in-Inside.result c.from_residual-in_err-no_pointers-in-Inside.ensures.1 in
+    let s = c.args.scope.now in
+    let e = c.in_err-no_pointers-in-Inside.field-0.0 in
+    let shape = ap (typed_full s) (ap view_full c.in-Inside.is ∙ view_inside c.in-Inside.pointers c.in-Inside.line c.in-Inside.inner c.in-Inside.suffixes) in
+    let first = subst (RefusesFirst e) c.deref-in-Inside.ensures.value c.in_err-no_pointers-in-Inside.ensures.first in
+    derives_fault c.from_residual-in_err-no_pointers-in-Inside.result p.0 e s c.args.found.now.items c.args.found.now.items (typed_full s (view_full c.args.declarator.now)) p.1 p.2
+    (fails_along e _ (typed_full s (view_full c.args.declarator.now)) (sym shape) (full_refused e s c.in-Inside.pointers.items (full_inside c.in-Inside.line (view_full c.in-Inside.inner.value) (full_suffixes_of c.in-Inside.suffixes.items)) first))
+
+pub add_full-returns-in_ok-no_pointers-in-Unnamed-clause-gives : goal.add_full-returns-in_ok-no_pointers-in-Unnamed-clause-gives
+add_full-returns-in_ok-no_pointers-in-Unnamed-clause-gives t c =
+    let s = c.args.scope.now in
+    let none = no_pointers c.in-Unnamed.pointers.items (full_unnamed (full_suffixes_of c.in-Unnamed.suffixes.items)) (sym c.deref.ensures.value ∙ c.in_ok-no_pointers-in-Unnamed.ensures.none) in
+    let same = ap (λ (xs : List DeclaratorSuffix). typed_suffixes s (full_suffixes_of xs)) c.deref-in-Unnamed.ensures.value
+    ∙ sym (ap (typed_full s) (ap view_full c.in-Unnamed.is ∙ view_unnamed c.in-Unnamed.pointers c.in-Unnamed.suffixes ∙ none)) in
+    derives_as c.add_suffixes.result c.add_suffixes.new.scope c.args.found.now.items c.add_suffixes.new.found.items (typed_suffixes s (full_suffixes_of c.deref-in-Unnamed.result.now)) (typed_full s (view_full c.args.declarator.now)) same c.add_suffixes.ensures.gives
+
+pub add_full-returns-in_ok-no_pointers-in-Named-clause-gives : goal.add_full-returns-in_ok-no_pointers-in-Named-clause-gives
+add_full-returns-in_ok-no_pointers-in-Named-clause-gives t c =
+    let s = c.args.scope.now in
+    let none = no_pointers c.in-Named.pointers.items (full_named c.in-Named.line (view_name c.in-Named.name) (full_suffixes_of c.in-Named.suffixes.items)) (sym c.deref-in-Named.ensures.value ∙ c.in_ok-no_pointers-in-Named.ensures.none) in
+    let same = ap (λ (xs : List DeclaratorSuffix). typed_suffixes s (full_suffixes_of xs)) c.deref-in-Named-2.ensures.value
+    ∙ sym (ap (typed_full s) (ap view_full c.in-Named.is ∙ view_named_full c.in-Named.pointers c.in-Named.line c.in-Named.name c.in-Named.suffixes ∙ none)) in
+    derives_as c.add_suffixes-in-Named.result c.add_suffixes-in-Named.new.scope c.args.found.now.items c.add_suffixes-in-Named.new.found.items (typed_suffixes s (full_suffixes_of c.deref-in-Named-2.result.now)) (typed_full s (view_full c.args.declarator.now)) same c.add_suffixes-in-Named.ensures.gives
 
 pub add_full-returns-in_err-add_full-in-Inside-clause-gives : goal.add_full-returns-in_err-add_full-in-Inside-clause-gives
 add_full-returns-in_err-add_full-in-Inside-clause-gives t c =
-    let p = err_from_is_err_and c.from_residual.result c.from_residual.ensures.1 in
+    let p = err_from_is_err_and c.from_residual-in_err-add_full-in-Inside.result c.from_residual-in_err-add_full-in-Inside.ensures.1 in
     let s = c.args.scope.now in
     let e = c.in_err-add_full-in-Inside.field-0.0 in
-    let shape = ap (typed_full s) (ap view_full c.in-Inside.is ∙ view_inside c.in-Inside.line c.in-Inside.inner c.in-Inside.suffixes) in
-    derives_fault c.from_residual.result p.0 e c.add_full.new.scope c.args.found.now.items c.add_full.new.found.items (typed_full s (view_full c.args.declarator.now)) p.1 p.2
+    let none = no_pointers c.in-Inside.pointers.items (full_inside c.in-Inside.line (view_full c.in-Inside.inner.value) (full_suffixes_of c.in-Inside.suffixes.items)) (sym c.deref-in-Inside.ensures.value ∙ c.in_ok-no_pointers-in-Inside.ensures.none) in
+    let shape = ap (typed_full s) (ap view_full c.in-Inside.is ∙ view_inside c.in-Inside.pointers c.in-Inside.line c.in-Inside.inner c.in-Inside.suffixes ∙ none) in
+    derives_fault c.from_residual-in_err-add_full-in-Inside.result p.0 e c.add_full.new.scope c.args.found.now.items c.add_full.new.found.items (typed_full s (view_full c.args.declarator.now)) p.1 p.2
     (fails_along e _ (typed_full s (view_full c.args.declarator.now)) (sym shape)
-    (fails_bind e (typed_full s (view_full c.in-Inside.inner.value)) _ (fails_along e _ _ (ap (λ (d : FullDeclarator). typed_full s (view_full d)) c.deref-in-Inside.ensures) c.in_err-add_full-in-Inside.ensures.gives)))
+    (fails_bind e (typed_full s (view_full c.in-Inside.inner.value)) _ (fails_along e _ _ (ap (λ (d : FullDeclarator). typed_full s (view_full d)) c.deref-in-Inside-2.ensures) c.in_err-add_full-in-Inside.ensures.gives)))
 
 pub add_full-returns-in_ok-add_full-in-Inside-clause-gives : goal.add_full-returns-in_ok-add_full-in-Inside-clause-gives
 add_full-returns-in_ok-add_full-in-Inside-clause-gives t c =
@@ -152,11 +186,12 @@ add_full-returns-in_ok-add_full-in-Inside-clause-gives t c =
     let now = c.add_suffixes-in-Inside.new.found.items in
     let last = c.add_suffixes-in-Inside.new.scope in
     let r = c.add_suffixes-in-Inside.result in
-    let shape = ap (typed_full s) (ap view_full c.in-Inside.is ∙ view_inside c.in-Inside.line c.in-Inside.inner c.in-Inside.suffixes) in
+    let none = no_pointers c.in-Inside.pointers.items (full_inside c.in-Inside.line (view_full c.in-Inside.inner.value) (full_suffixes_of c.in-Inside.suffixes.items)) (sym c.deref-in-Inside.ensures.value ∙ c.in_ok-no_pointers-in-Inside.ensures.none) in
+    let shape = ap (typed_full s) (ap view_full c.in-Inside.is ∙ view_inside c.in-Inside.pointers c.in-Inside.line c.in-Inside.inner c.in-Inside.suffixes ∙ none) in
     let first = typed_full s (view_full c.in-Inside.inner.value) in
     let g : Scoped → Result (List Derived × Scoped) Fault = λ y. typed_suffixes y (full_suffixes_of c.in-Inside.suffixes.items) in
-    let good = sym (ap (λ (d : FullDeclarator). suffixes_first (view_deriveds found) (typed_full s (view_full d))) c.deref-in-Inside.ensures) ∙ c.in_ok-add_full-in-Inside.ensures.gives in
-    let rest = derives_as r last mid now (typed_suffixes u (full_suffixes_of c.deref-in-Inside-2.result.now)) (g u) (ap (λ (xs : List DeclaratorSuffix). typed_suffixes u (full_suffixes_of xs)) c.deref-in-Inside-2.ensures.value) c.add_suffixes-in-Inside.ensures.gives in
+    let good = sym (ap (λ (d : FullDeclarator). suffixes_first (view_deriveds found) (typed_full s (view_full d))) c.deref-in-Inside-2.ensures) ∙ c.in_ok-add_full-in-Inside.ensures.gives in
+    let rest = derives_as r last mid now (typed_suffixes u (full_suffixes_of c.deref-in-Inside-3.result.now)) (g u) (ap (λ (xs : List DeclaratorSuffix). typed_suffixes u (full_suffixes_of xs)) c.deref-in-Inside-3.ensures.value) c.add_suffixes-in-Inside.ensures.gives in
     derives_as r last found now (joined first g) (typed_full s (view_full c.args.declarator.now)) (sym shape) (derives_both r found mid now u last first g good rest)
 
 pub add_suffixes-returns-in_err-derived-clause-gives : goal.add_suffixes-returns-in_err-derived-clause-gives
