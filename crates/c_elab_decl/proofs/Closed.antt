@@ -1,7 +1,7 @@
 -- Typing is the same where functions that can't be called are other ones: each call asks for what it gives to be complete.
 use Rattle.std.proofs.Common.{◌≡◌, ℕ, zero, suc, Bool, true, false, List, [], ◌∷◌, map, Option, Some, None, Result, Ok, Err, refl, ap, sym, subst, ◌∙◌}
 use Rattle.std.specs.Prelude.{slice_get, option_map}
-use Rattle.c_tree.specs.Tree.{TypePart, qualified, word, tagged, typedef_name, Tree, Trees, Declared, Suffixes, unnamed, named, inside, no_suffix, bounded, unbounded, constant, character, strings, name, parens, unary, cast, sizeof_expr, sizeof_type, step, member, binary, choice, assign, comma, call, none, more, first_line}
+use Rattle.c_tree.specs.Tree.{TypePart, qualified, word, tagged, typedef_name, Tree, Trees, Declared, Suffixes, unnamed, named, inside, pointing, no_suffix, bounded, unbounded, constant, character, strings, name, parens, unary, cast, sizeof_expr, sizeof_type, step, member, binary, choice, assign, comma, call, address, dereference, arrow, subscript, none, more, first_line}
 use Rattle.c_types.specs.declared.integers.IntegerType.{IntegerType}
 use Rattle.c_types.specs.Types.{CType, Completed}
 use Rattle.c_types.specs.Types as ctypes
@@ -174,6 +174,8 @@ module _ (s : Scoped) where
     typed_keeps m w (name line n) = keep_line line _ _ (name_keeps line (meaning_of s.bindings n))
     typed_keeps m w (parens line e) = typed_keeps m w e
     typed_keeps m w (unary line op e) = keep_bind _ _ _ _ (used_keeps m true (bare_line e) (typed s m true e) (typed (closed_scope s) m true e) (typed_keeps m true e)) (λ x. keep_same _)
+    typed_keeps m w (address line e) = keep_same _
+    typed_keeps m w (dereference line e) = keep_same _
     typed_keeps m w (cast line parts d e) =
         keep_bind _ _ _ _ (type_name_keeps parts d (lengths s m d) (lengths (closed_scope s) m d) (lengths_keep m d)) (λ t.
         keep_bind _ _ _ _ (used_keeps m (is_wanted t) (bare_line e) (typed s m (is_wanted t) e) (typed (closed_scope s) m (is_wanted t) e) (typed_keeps m (is_wanted t) e)) (λ x. keep_same _))
@@ -183,6 +185,8 @@ module _ (s : Scoped) where
     typed_keeps m w (step line op e) = keep_bind _ _ _ _ (used_keeps m true (bare_line e) (typed s m true e) (typed (closed_scope s) m true e) (typed_keeps m true e)) (λ x. keep_same _)
     typed_keeps m w (member line e n) =
         keep_bind _ _ _ _ (used_keeps m true (bare_line e) (typed s m true e) (typed (closed_scope s) m true e) (typed_keeps m true e)) (λ x. keep_line (first_line e) _ _ (member_keeps line x n))
+    typed_keeps m w (arrow line e n) = keep_same _
+    typed_keeps m w (subscript line a b) = keep_same _
     typed_keeps m w (binary line op a b) =
         keep_bind _ _ _ _ (used_keeps m true (bare_line a) (typed s m true a) (typed (closed_scope s) m true a) (typed_keeps m true a)) (λ x.
         keep_bind _ _ _ _ (used_keeps m true (bare_line b) (typed s m true b) (typed (closed_scope s) m true b) (typed_keeps m true b)) (λ y. keep_same _))
@@ -210,6 +214,7 @@ module _ (s : Scoped) where
     lengths_keep m (unnamed suffixes) = suffixes_keep m suffixes
     lengths_keep m (named line n suffixes) = suffixes_keep m suffixes
     lengths_keep m (inside line d suffixes) = keep_bind _ _ _ _ (lengths_keep m d) (λ inner. keep_bind _ _ _ _ (suffixes_keep m suffixes) (λ outer. keep_same _))
+    lengths_keep m (pointing line qs d) = keep_same _
 
     suffixes_keep : (m : Bool) (x : Suffixes) → Keeps (suffix_lengths s m x) (suffix_lengths (closed_scope s) m x)
     suffixes_keep m no_suffix = keep_same _

@@ -1,6 +1,6 @@
 -- How far a function is typed is of no matter to an expression.
 use Rattle.std.proofs.Common.{◌≡◌, Bool, true, false, Result, Ok, Err, refl, ap, ◌∙◌}
-use Rattle.c_tree.specs.Tree.{Tree, Trees, Declared, Suffixes, unnamed, named, inside, no_suffix, bounded, unbounded, constant, character, strings, name, parens, unary, cast, sizeof_expr, sizeof_type, step, member, binary, choice, assign, comma, call, none, more}
+use Rattle.c_tree.specs.Tree.{Tree, Trees, Declared, Suffixes, unnamed, named, inside, pointing, no_suffix, bounded, unbounded, constant, character, strings, name, parens, unary, cast, sizeof_expr, sizeof_type, step, member, binary, choice, assign, comma, call, address, dereference, arrow, subscript, none, more}
 use Rattle.c_scope.specs.Scopes.{Flow, Scoped}
 use Rattle.c_scope.specs.Faults.{◌>>=◌, Fault, on_line}
 use Rattle.c_operands.specs.Operands.{Operand, cast_operand}
@@ -20,6 +20,8 @@ mutual
   typed_flow s f m w (name line n) = refl
   typed_flow s f m w (parens line e) = typed_flow s f m w e
   typed_flow s f m w (unary line op e) = rw (typed_flow s f m true e) refl
+  typed_flow s f m w (address line e) = refl
+  typed_flow s f m w (dereference line e) = refl
   typed_flow s f m w (cast line ps d e) =
       bind_same (type_name (record s { flow = f }) ps d (lengths (record s { flow = f }) m d)) (type_name s ps d (lengths s m d)) _ _ (ap (type_name s ps d) (lengths_flow s f m d)) (λ t.
       ap (λ (r : Result Operand Fault). used_on m (is_wanted t) (bare_line e) r >>= λ x. on_line line (cast_operand s.records.done line t x)) (typed_flow s f m (is_wanted t) e))
@@ -27,6 +29,8 @@ mutual
   typed_flow s f m w (sizeof_type line ps d) = rw (lengths_flow s f true d) refl
   typed_flow s f m w (step line op e) = rw (typed_flow s f m true e) refl
   typed_flow s f m w (member line e n) = rw (typed_flow s f m true e) refl
+  typed_flow s f m w (arrow line e n) = refl
+  typed_flow s f m w (subscript line a b) = refl
   typed_flow s f m w (binary line op a b) = rw (typed_flow s f m true a, typed_flow s f m true b) refl
   typed_flow s f m w (choice line test a b) = rw (typed_flow s f m true test, typed_flow s f m w a, typed_flow s f m w b) refl
   typed_flow s f m w (assign line op a b) = rw (typed_flow s f m true a, typed_flow s f m true b) refl
@@ -41,6 +45,7 @@ mutual
   lengths_flow s f m (unnamed suffixes) = suffixes_flow s f m suffixes
   lengths_flow s f m (named line n suffixes) = suffixes_flow s f m suffixes
   lengths_flow s f m (inside line d suffixes) = rw (lengths_flow s f m d, suffixes_flow s f m suffixes) refl
+  lengths_flow s f m (pointing line qs d) = refl
 
   suffixes_flow : (s : Scoped) (f : Flow) (m : Bool) (x : Suffixes) → suffix_lengths (record s { flow = f }) m x ≡ suffix_lengths s m x
   suffixes_flow s f m no_suffix = refl

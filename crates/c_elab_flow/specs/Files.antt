@@ -1,6 +1,6 @@
 -- The functions and the objects of a file, and what the declarator of a definition holds (C11 6.9).
 use Rattle.std.specs.Prelude.{ℕ, ◌&&◌, Bool, true, false, List, [], ◌∷◌, map, slice_get, slice_set, Option, Some, None, if◌then◌else◌}
-use Rattle.c_tree.specs.Declarations.{Full, full_unnamed, full_named, full_inside, FullSuffixes, full_end, full_bounded, full_open, full_empty, full_void, full_parameters, Parameters, no_parameter}
+use Rattle.c_tree.specs.Declarations.{Full, full_unnamed, full_named, full_inside, full_pointing, FullSuffixes, full_end, full_bounded, full_open, full_empty, full_void, full_parameters, Parameters, no_parameter}
 use Rattle.c_tree.specs.Statements.{Statement}
 use Rattle.c_types.specs.Types.{Completed}
 use Rattle.core_tree.specs.declared.functions.Variable.{Variable}
@@ -32,11 +32,13 @@ abbrev pub is_name_alone : Full → Bool
 is_name_alone (full_unnamed suffixes) = false
 is_name_alone (full_named line n suffixes) = no_suffixes suffixes
 is_name_alone (full_inside line d suffixes) = is_name_alone d && no_suffixes suffixes
+is_name_alone (full_pointing line qs d) = false
 
 abbrev pub own_parameters : Full → Option (Parameters × Bool)
 own_parameters (full_unnamed suffixes) = None
 own_parameters (full_named line n suffixes) = one_function suffixes
 own_parameters (full_inside line d suffixes) = if no_suffixes suffixes then own_parameters d else (if is_name_alone d then one_function suffixes else None)
+own_parameters (full_pointing line qs d) = None
 
 -- a defined function: its number, its variables, how many labels it has, and its body
 pub record Definition : Type 0 where

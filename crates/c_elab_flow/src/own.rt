@@ -1,24 +1,32 @@
 //! The declarator of a definition.
-ghost use Rattle.std.specs.Prelude.{◌≡◌, ◌<◌, Bool, true, [], is_some, Some, None, MatchOption};
+ghost use Rattle.std.specs.Prelude.{◌≡◌, ◌<◌, ◌==◌, ◌&&◌, length, Bool, true, [], is_some, Some, None, MatchOption};
 ghost use Rattle.c_tree.specs.Declarations.{Parameters, full_end, view_full, view_full_suffix, full_suffixes_of};
 ghost use Rattle.c_elab_base.specs.Derivations.{view_parameters, view_derived, view_deriveds};
-ghost use Rattle.c_elab_flow.specs.Files.{is_name_alone, one_function, own_parameters};
+ghost use Rattle.c_elab_flow.specs.Files.{no_suffixes, is_name_alone, one_function, own_parameters};
 ghost use Rattle.c_elab_flow.specs.Held.{IsOwn, called_parameters, parameters_in};
 
 use c_elab_base::{Derived, Parameter};
-use c_tree::{DeclaratorSuffix, FullDeclarator};
+use c_tree::{DeclaratorSuffix, FullDeclarator, PointerMark};
+
+// Neither pointers nor suffixes are there.
+fn is_bare(pointers: &[PointerMark], suffixes: &[DeclaratorSuffix]) -> bool
+    ensures { result ≡ ((length pointers.now == 0) && no_suffixes (full_suffixes_of suffixes.now)) }
+{
+    pointers.is_empty() && suffixes.is_empty()
+}
 
 fn is_name_alone(declarator: &FullDeclarator) -> bool
     ensures { result ≡ is_name_alone (view_full declarator.now) }
 {
     match declarator {
         FullDeclarator::Unnamed { .. } => false,
-        FullDeclarator::Named { suffixes, .. } => suffixes.is_empty(),
+        FullDeclarator::Named { pointers, suffixes, .. } => is_bare(pointers, suffixes),
         FullDeclarator::Inside {
+            pointers,
             inner,
             suffixes,
             ..
-        } => suffixes.is_empty() && is_name_alone(inner),
+        } => is_bare(pointers, suffixes) && is_name_alone(inner),
     }
 }
 
@@ -52,13 +60,22 @@ pub fn own_suffix(declarator: &FullDeclarator) -> Option<&DeclaratorSuffix>
 {
     match declarator {
         FullDeclarator::Unnamed { .. } => None,
-        FullDeclarator::Named { suffixes, .. } => one_function(suffixes),
+        FullDeclarator::Named { pointers, suffixes, .. } => {
+            if pointers.is_empty() {
+                one_function(suffixes)
+            } else {
+                None
+            }
+        }
         FullDeclarator::Inside {
+            pointers,
             inner,
             suffixes,
             ..
         } => {
-            if suffixes.is_empty() {
+            if !pointers.is_empty() {
+                None
+            } else if suffixes.is_empty() {
                 own_suffix(inner)
             } else if is_name_alone(inner) {
                 one_function(suffixes)

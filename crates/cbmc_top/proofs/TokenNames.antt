@@ -24,7 +24,7 @@ use Rattle.c_lexer.specs.declared.fault.Fault.TheVariants as faults
 use Rattle.c_tree.specs.Names.{Scope, built_in_names}
 use Rattle.c_tree.specs.Spelling.{Single, Behind, Then, Nothing, IsMark, Names}
 use Rattle.c_tree.specs.Tree.{Tree}
-use Rattle.c_tree.specs.Declarations.{Parts, Full, full_unnamed, full_named, full_inside, Initial, Declarators, none_declared, declarator, name_of, full_has_name, have_typedef, with_parts, with_body, with_function, with_declaration}
+use Rattle.c_tree.specs.Declarations.{Parts, Full, full_unnamed, full_named, full_inside, full_pointing, Initial, Declarators, none_declared, declarator, name_of, full_has_name, have_typedef, with_parts, with_body, with_function, with_declaration}
 use Rattle.c_tree.specs.Statements.{Statement, block, if_then, if_else, evaluate, return_nothing, return_value, empty, while_loop, do_loop, for_loop, for_declared, switch_on, case_of, default_of, labelled, goto_label, break_off, continue_on, Items, done, declares, does, Externals, no_more, declared, defines}
 use Rattle.c_tree.specs.Files.{SpellsFull, SpellsOthers, SpellsDeclarators, SpellsDeclaration, SpellsStatement, SpellsItems, SpellsFile, SpellsTest, SpellsHeader, IsWellStatement, AreWellItems, AreWellDeclarators, IsWellDeclaration, IsWellDefinition, AreWellExternals, IsFile}
 use Rattle.report.specs.Identifiers.{is_letter, is_digit, is_word_byte, all_word_bytes, is_identifier}
@@ -190,6 +190,10 @@ module _ (bytes : List ℕ) where
       let rest = (whole_of tokens (spelled.token ∷ spelled.rest) spelled.whole all).1 in
       let parts = spelled.behind in
       full_named_so d parts.left has parts.first (named_left bytes parts.left parts.right (whole_of spelled.rest (parts.left ++ parts.right) parts.whole rest))
+  full_named_so (full_pointing line qs d) tokens has spelled all =
+      let rest = (whole_of tokens (spelled.token ∷ spelled.rest) spelled.whole all).1 in
+      let parts = spelled.behind in
+      full_named_so d parts.right has parts.second (named_right bytes parts.left parts.right (whole_of spelled.rest (parts.left ++ parts.right) parts.whole rest))
 
   left : (A B : List Token → Type 0) (tokens : List Token) (t : Then A B tokens) → All_ tokens → All_ t.left
   left A B tokens t all = named_left bytes t.left t.right (whole_of tokens (t.left ++ t.right) t.whole all)

@@ -2,7 +2,7 @@
 
 // Expressions and type names, with the trees that they have (C11 6.5, 6.7.7).
 
-use crate::spelled::{Text, blank, lexed, put, repeat, show_type, whole};
+use crate::spelled::{Text, blank, lexed, put, put_pointers, repeat, show_type, whole};
 use c_lexer::Tokens;
 use c_parse_expr::{ExpressionError, Level, TypeNames, expression};
 use c_tree::{
@@ -56,6 +56,7 @@ fn put_suffixes(out: &mut Text, suffixes: &[ArraySuffix]) {
 
 /// Writes a declarator; a bound is `#`.
 fn put_declarator(out: &mut Text, declarator: &Declarator) {
+    put_pointers(out, &declarator.pointers);
     match &declarator.core {
         DeclaratorCore::Absent => {}
         DeclaratorCore::Named { name, .. } => put(out, &name.bytes),
@@ -108,6 +109,16 @@ fn show(out: &mut Text, expr: &Expr) {
             show(out, operand);
             put(out, b"]")
         }
+        Expr::Address { operand, .. } => {
+            put(out, b"[&");
+            show(out, operand);
+            put(out, b"]")
+        }
+        Expr::Dereference { operand, .. } => {
+            put(out, b"[*");
+            show(out, operand);
+            put(out, b"]")
+        }
         Expr::Cast {
             type_name,
             operand,
@@ -146,6 +157,20 @@ fn show(out: &mut Text, expr: &Expr) {
             put(out, b".");
             put(out, &name.bytes);
             put(out, b"]")
+        }
+        Expr::Arrow { left, name, .. } => {
+            put(out, b"[");
+            show(out, left);
+            put(out, b"->");
+            put(out, &name.bytes);
+            put(out, b"]")
+        }
+        Expr::Subscript { left, index, .. } => {
+            put(out, b"[");
+            show(out, left);
+            put(out, b"[");
+            show(out, index);
+            put(out, b"]]")
         }
         Expr::Binary {
             operator,

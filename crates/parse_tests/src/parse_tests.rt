@@ -2,7 +2,7 @@
 
 // Files, declarations and statements, with the trees that they have (C11 6.7 to 6.9).
 
-use crate::spelled::{Text, blank, lexed, put, repeat, show_type, whole};
+use crate::spelled::{Text, blank, lexed, put, put_pointers, repeat, show_type, whole};
 use c_parse_decl::{ParseError, parse};
 use c_tree::{
     Declaration, DeclaratorSuffix, Enumerator, Expr, External, File, FullDeclarator,
@@ -119,16 +119,27 @@ fn show_declarator(out: &mut Text, declarator: &FullDeclarator, levels: u32) {
         return put(out, b".");
     }
     match declarator {
-        FullDeclarator::Unnamed { suffixes } => show_suffixes(out, suffixes, levels - 1),
-        FullDeclarator::Named { name, suffixes, .. } => {
+        FullDeclarator::Unnamed { pointers, suffixes } => {
+            put_pointers(out, pointers);
+            show_suffixes(out, suffixes, levels - 1)
+        }
+        FullDeclarator::Named {
+            pointers,
+            name,
+            suffixes,
+            ..
+        } => {
+            put_pointers(out, pointers);
             put(out, &name.bytes);
             show_suffixes(out, suffixes, levels - 1)
         }
         FullDeclarator::Inside {
+            pointers,
             inner,
             suffixes,
             ..
         } => {
+            put_pointers(out, pointers);
             put(out, b"(");
             show_declarator(out, inner, levels - 1);
             put(out, b")");

@@ -3,7 +3,7 @@
 // What the tests of parsing write trees with.
 
 use c_lexer::{LexError, Tokens, lex};
-use c_tree::{Qualifier, TagKind, TypeSpecifier, TypeWord};
+use c_tree::{PointerMark, Qualifier, TagKind, TypeSpecifier, TypeWord};
 use std::alloc::{AllocError, Global};
 
 /// The tokens of a short text.
@@ -68,14 +68,33 @@ fn word_text(word: TypeWord) -> &'static [u8] {
     }
 }
 
+fn qualifier_text(qualifier: Qualifier) -> &'static [u8] {
+    match qualifier {
+        Qualifier::Const => b"const",
+        Qualifier::Volatile => b"volatile",
+        Qualifier::Restrict => b"restrict",
+    }
+}
+
+fn put_qualifiers(out: &mut Text, qualifiers: &[Qualifier]) {
+    for qualifier in qualifiers {
+        put(out, qualifier_text(*qualifier));
+        put(out, b",");
+    }
+}
+
+/// Writes pointers, with a comma behind each qualifier.
+pub fn put_pointers(out: &mut Text, pointers: &[PointerMark]) {
+    for pointer in pointers {
+        put(out, b"*");
+        put_qualifiers(out, &pointer.qualifiers);
+    }
+}
+
 /// Writes a specifier of a type, the name of a typedef with a colon before it.
 pub fn show_type(out: &mut Text, part: &TypeSpecifier) {
     match part {
-        TypeSpecifier::Qualifier { qualifier, .. } => match qualifier {
-            Qualifier::Const => put(out, b"const"),
-            Qualifier::Volatile => put(out, b"volatile"),
-            Qualifier::Restrict => put(out, b"restrict"),
-        },
+        TypeSpecifier::Qualifier { qualifier, .. } => put(out, qualifier_text(*qualifier)),
         TypeSpecifier::Word { word, .. } => put(out, word_text(*word)),
         TypeSpecifier::Tagged { kind, name, .. } => {
             match kind {

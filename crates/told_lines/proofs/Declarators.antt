@@ -4,7 +4,7 @@ use Rattle.std.specs.Prelude.{◌-◌, ◌==◌, ◌&&◌, ◌||◌, not, is_som
 use Rattle.c_tree.specs.declared.specifier.TagKind.{TagKind}
 use Rattle.c_tree.specs.declared.specifier.TagKind.TheVariants as tag_kinds
 use Rattle.c_tree.specs.Tree.{TypePart, qualified, word, tagged, typedef_name}
-use Rattle.c_tree.specs.Declarations.{Enumerated, Part, type_part, storage, function, structure, enumeration, Parts, no_part, part, Members, no_member, members, Full, full_unnamed, full_named, full_inside, Fulls, no_full, full, FullSuffixes, full_end, full_bounded, full_open, full_empty, full_void, full_parameters, Parameters, no_parameter, parameter, Initial, Declarators, none_declared, declarator, name_of, parts_line}
+use Rattle.c_tree.specs.Declarations.{Enumerated, Part, type_part, storage, function, structure, enumeration, Parts, no_part, part, Members, no_member, members, Full, full_unnamed, full_named, full_inside, full_pointing, Fulls, no_full, full, FullSuffixes, full_end, full_bounded, full_open, full_empty, full_void, full_parameters, Parameters, no_parameter, parameter, Initial, Declarators, none_declared, declarator, name_of, parts_line}
 use Rattle.c_types.specs.Types.{CType}
 use Rattle.c_types.specs.Layouts.{is_completed, kind_at}
 use Rattle.c_types.specs.declared.types.RecordKind.{RecordKind}
@@ -163,6 +163,7 @@ module _ (P : ℕ → Type 0) where
     full_good s (full_unnamed suffixes) fine = suffixes_good s suffixes fine
     full_good s (full_named line n suffixes) fine = suffixes_good s suffixes fine
     full_good s (full_inside line d suffixes) fine = front_good (typed_full s d) _ (full_good s d fine) (λ inner h. front_good (typed_suffixes inner.1 suffixes) _ (suffixes_good inner.1 suffixes h) (λ outer k. ok _ _ k))
+    full_good s (full_pointing line qs d) fine = fails _ _
 
     suffixes_good : (s : Scoped) (x : FullSuffixes) → Fine s → Good (λ y. Fine y.1) (typed_suffixes s x)
     suffixes_good s full_end fine = ok _ _ fine

@@ -1,7 +1,7 @@
 -- The lines of typed initializers are those of their trees.
 use Rattle.std.proofs.Common.{ℕ, suc, Bool, List, [], ◌∷◌, length, Option, Some, None, Result, Ok, Err, refl}
 use Rattle.std.specs.Prelude.{◌&&◌, ◌||◌, not, nat_le}
-use Rattle.c_tree.specs.Tree.{Tree, constant, character, strings, name, parens, unary, cast, sizeof_expr, sizeof_type, step, member, binary, choice, assign, comma, call}
+use Rattle.c_tree.specs.Tree.{Tree, constant, character, strings, name, parens, unary, cast, sizeof_expr, sizeof_type, step, member, binary, choice, assign, comma, call, address, dereference, arrow, subscript}
 use Rattle.c_tree.specs.Declarations.{Initial, initial, braces, Initials, no_initial, initials}
 use Rattle.c_types.specs.declared.integers.IntegerType.{IntegerType}
 use Rattle.c_types.specs.Types.{CType, Completed, Records}
@@ -104,11 +104,15 @@ module _ (P : ℕ → Type 0) where
   literal_lined (name line n) h = tt
   literal_lined (parens line e) h = tt
   literal_lined (unary line op e) h = tt
+  literal_lined (address line e) h = tt
+  literal_lined (dereference line e) h = tt
   literal_lined (cast line parts d e) h = tt
   literal_lined (sizeof_expr line e) h = tt
   literal_lined (sizeof_type line parts d) h = tt
   literal_lined (step line op e) h = tt
   literal_lined (member line e n) h = tt
+  literal_lined (arrow line e n) h = tt
+  literal_lined (subscript line a b) h = tt
   literal_lined (binary line op a b) h = tt
   literal_lined (choice line test a b) h = tt
   literal_lined (assign line op a b) h = tt

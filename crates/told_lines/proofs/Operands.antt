@@ -7,7 +7,7 @@ use Rattle.c_tree.specs.declared.expr.UnaryOp.{UnaryOp}
 use Rattle.c_tree.specs.declared.expr.UnaryOp.TheVariants as unaries
 use Rattle.c_tree.specs.declared.expr.StepOp.{StepOp}
 use Rattle.c_tree.specs.declared.expr.StepOp.TheVariants as postfixes
-use Rattle.c_tree.specs.Tree.{Tree, Trees, constant, character, strings, name, parens, unary, cast, sizeof_expr, sizeof_type, step, member, binary, choice, assign, comma, call, none, more, first_line}
+use Rattle.c_tree.specs.Tree.{Tree, Trees, constant, character, strings, name, parens, unary, cast, sizeof_expr, sizeof_type, step, member, binary, choice, assign, comma, call, address, dereference, arrow, subscript, none, more, first_line}
 use Rattle.c_types.specs.declared.integers.IntegerType.{IntegerType}
 use Rattle.c_types.specs.declared.types.ValueType.{ValueType}
 use Rattle.c_types.specs.declared.types.ValueType.TheVariants.{Void, Integer}
@@ -419,11 +419,15 @@ module _ (P : ℕ → Type 0) where
   callee_good s (character line c) typing h = no_function_good typing
   callee_good s (strings line c) typing h = no_function_good typing
   callee_good s (unary line op e) typing h = no_function_good typing
+  callee_good s (address line e) typing h = no_function_good typing
+  callee_good s (dereference line e) typing h = no_function_good typing
   callee_good s (cast line parts d e) typing h = no_function_good typing
   callee_good s (sizeof_expr line e) typing h = no_function_good typing
   callee_good s (sizeof_type line parts d) typing h = no_function_good typing
   callee_good s (step line op e) typing h = no_function_good typing
   callee_good s (member line e n) typing h = no_function_good typing
+  callee_good s (arrow line e n) typing h = no_function_good typing
+  callee_good s (subscript line a b) typing h = no_function_good typing
   callee_good s (binary line op a b) typing h = no_function_good typing
   callee_good s (choice line test a b) typing h = no_function_good typing
   callee_good s (assign line op a b) typing h = no_function_good typing
@@ -452,6 +456,8 @@ module _ (P : ℕ → Type 0) where
     typed_good s m w (name line n) h = on InOperand line (name_node s line (meaning_of s.bindings n)) (name_good s line (meaning_of s.bindings n) h)
     typed_good s m w (parens line e) h = typed_good s m w e h.1
     typed_good s m w (unary line op e) h = bind InOperand InOperand (used_on m true (bare_line e) (typed s m true e)) _ (used_on_good m true (bare_line e) (typed s m true e) (typed_good s m true e h.1)) (λ x g. on InOperand line (unary_operand line op x) (unary_operand_good line op x h.0 g))
+    typed_good s m w (address line e) h = fails _ _
+    typed_good s m w (dereference line e) h = fails _ _
     typed_good s m w (cast line parts d e) h =
         pass InOperand (type_name s parts d (lengths s m d)) _ (λ t.
         bind InOperand InOperand (used_on m (is_wanted t) (bare_line e) (typed s m (is_wanted t) e)) _ (used_on_good m (is_wanted t) (bare_line e) (typed s m (is_wanted t) e) (typed_good s m (is_wanted t) e h.1)) (λ x g. on InOperand line (cast_operand s.records.done line t x) (cast_operand_good s.records.done line t x h.0 g)))
@@ -459,6 +465,8 @@ module _ (P : ℕ → Type 0) where
     typed_good s m w (sizeof_type line parts d) h = pass InOperand (type_name s parts d (lengths s true d)) _ (λ t. pass InOperand (on_line line (type_size s.records.done t)) _ (λ n. ok InOperand _ h))
     typed_good s m w (step line op e) h = bind InOperand InOperand (used_on m true (bare_line e) (typed s m true e)) _ (used_on_good m true (bare_line e) (typed s m true e) (typed_good s m true e h.1)) (λ x g. on InOperand (first_line e) (postfix_operand line op x) (postfix_operand_good line op x h.0 g))
     typed_good s m w (member line e n) h = bind InOperand InOperand (used_on m true (bare_line e) (typed s m true e)) _ (used_on_good m true (bare_line e) (typed s m true e) (typed_good s m true e h.1)) (λ x g. on InOperand (first_line e) (member_node s line x n) (member_good s line x n h.0 g))
+    typed_good s m w (arrow line e n) h = fails _ _
+    typed_good s m w (subscript line a b) h = fails _ _
     typed_good s m w (binary line op a b) h =
         bind InOperand InOperand (used_on m true (bare_line a) (typed s m true a)) _ (used_on_good m true (bare_line a) (typed s m true a) (typed_good s m true a h.1)) (λ x g.
         bind InOperand InOperand (used_on m true (bare_line b) (typed s m true b)) _ (used_on_good m true (bare_line b) (typed s m true b) (typed_good s m true b h.2)) (λ y l. on InOperand (first_line a) (binary_operand line op x y) (binary_operand_good line op x y h.0 g l)))

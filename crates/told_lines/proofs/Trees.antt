@@ -4,8 +4,8 @@ use Rattle.std.proofs.lemmas.Bool.{false≢true}
 use Rattle.c_token.specs.declared.token.Token.{Token}
 use Rattle.c_tree.specs.Names.{Scope, built_in_names}
 use Rattle.c_tree.specs.Spelling.{Single, Behind, Then, Spells, SpellsArguments, SpellsRest}
-use Rattle.c_tree.specs.Tree.{Tree, Trees, constant, character, strings, name, parens, unary, cast, sizeof_expr, sizeof_type, step, member, binary, choice, assign, comma, call, none, more}
-use Rattle.c_tree.specs.Declarations.{Parts, Full, full_unnamed, full_named, full_inside, Initial, initial, braces, Initials, no_initial, initials, Declarators, none_declared, declarator, full_has_name, have_typedef, with_parts, with_body, with_function, with_declaration}
+use Rattle.c_tree.specs.Tree.{Tree, Trees, constant, character, strings, name, parens, unary, cast, sizeof_expr, sizeof_type, step, member, binary, choice, assign, comma, call, address, dereference, arrow, subscript, none, more}
+use Rattle.c_tree.specs.Declarations.{Parts, Full, full_unnamed, full_named, full_inside, full_pointing, Initial, initial, braces, Initials, no_initial, initials, Declarators, none_declared, declarator, full_has_name, have_typedef, with_parts, with_body, with_function, with_declaration}
 use Rattle.c_tree.specs.Statements.{Statement, block, if_then, if_else, evaluate, return_nothing, return_value, empty, while_loop, do_loop, for_loop, for_declared, switch_on, case_of, default_of, labelled, goto_label, break_off, continue_on, Items, done, declares, does, Externals, no_more, declared, defines}
 use Rattle.c_tree.specs.Files.{SpellsFull, SpellsInitial, SpellsInitials, SpellsOtherInitials, SpellsInitializer, SpellsOthers, SpellsDeclarators, SpellsDeclaration, SpellsMaybe, SpellsStatement, SpellsItems, SpellsFile, IsWellStatement, AreWellItems, AreWellDeclarators, IsWellDeclaration, AreWellExternals, IsFile}
 use Rattle.told_lines.specs.TreeLines.{InTree, InTrees, InMaybeTree, InInitial, InInitials, InInitializer, InDeclarator, InDeclarators, InTreeStatement, InTreeItems, InExternals}
@@ -53,6 +53,8 @@ module _ (P : ℕ → Type 0) where
       tree_lined (parens line e) tokens spelled all =
           let t = spelled.behind in (subst P spelled.is.line (front _ _ tokens spelled all), tree_lined e t.left t.first (left _ _ spelled.rest t (after _ _ tokens spelled all)))
       tree_lined (unary line op e) tokens spelled all = (subst P spelled.is.line (front _ _ tokens spelled all), tree_lined e spelled.rest spelled.behind (after _ _ tokens spelled all))
+      tree_lined (address line e) tokens spelled all = (subst P spelled.is.line (front _ _ tokens spelled all), tree_lined e spelled.rest spelled.behind (after _ _ tokens spelled all))
+      tree_lined (dereference line e) tokens spelled all = (subst P spelled.is.line (front _ _ tokens spelled all), tree_lined e spelled.rest spelled.behind (after _ _ tokens spelled all))
       tree_lined (cast line parts d e) tokens spelled all =
           let t = spelled.behind in
           let u = t.second in
@@ -64,6 +66,13 @@ module _ (P : ℕ → Type 0) where
           let t = spelled.second in (subst P t.is.line (lone _ spelled.right t (right _ _ tokens spelled all)), tree_lined e spelled.left spelled.first (left _ _ tokens spelled all))
       tree_lined (member line e n) tokens spelled all =
           let t = spelled.second in (subst P t.is.line (front _ _ spelled.right t (right _ _ tokens spelled all)), tree_lined e spelled.left spelled.first (left _ _ tokens spelled all))
+      tree_lined (arrow line e n) tokens spelled all =
+          let t = spelled.second in (subst P t.is.line (front _ _ spelled.right t (right _ _ tokens spelled all)), tree_lined e spelled.left spelled.first (left _ _ tokens spelled all))
+      tree_lined (subscript line a b) tokens spelled all =
+          let t = spelled.second in
+          let r = right _ _ tokens spelled all in
+          let u = t.behind in
+          (subst P t.is.line (front _ _ spelled.right t r), tree_lined a spelled.left spelled.first (left _ _ tokens spelled all), tree_lined b u.left u.first (left _ _ t.rest u (after _ _ spelled.right t r)))
       tree_lined (binary line op a b) tokens spelled all =
           let t = spelled.second in
           let r = right _ _ tokens spelled all in
@@ -112,6 +121,8 @@ module _ (P : ℕ → Type 0) where
     full_lined (full_named line n suffixes) tokens has spelled all = (subst P spelled.is.line (front _ _ tokens spelled all), subst P spelled.is.line (front _ _ tokens spelled all))
     full_lined (full_inside line d suffixes) tokens has spelled all =
         let t = spelled.behind in (subst P spelled.is.line (front _ _ tokens spelled all), (full_lined d t.left has t.first (left _ _ spelled.rest t (after _ _ tokens spelled all))).1)
+    full_lined (full_pointing line qs d) tokens has spelled all =
+        let t = spelled.behind in (subst P spelled.is.line (front _ _ tokens spelled all), (full_lined d t.right has t.second (right _ _ spelled.rest t (after _ _ tokens spelled all))).1)
 
     mutual
       initial_lined : (i : Initial) (tokens : List Token) → SpellsInitial bytes i tokens → InTokens P tokens → InInitial P i

@@ -1,6 +1,6 @@
 -- The lines of a file's tree that typing hands on: those of expressions outside of type names, of initializers, of statements, and of declarators and their names.
 use Rattle.std.specs.Prelude.{ℕ, Option, Some, None}
-use Rattle.c_tree.specs.Tree.{Tree, constant, character, strings, name, parens, unary, cast, sizeof_expr, sizeof_type, step, member, binary, choice, assign, comma, call, Trees, none, more}
+use Rattle.c_tree.specs.Tree.{Tree, constant, character, strings, name, parens, unary, cast, sizeof_expr, sizeof_type, step, member, binary, choice, assign, comma, call, address, dereference, arrow, subscript, Trees, none, more}
 use Rattle.c_tree.specs.Declarations.{Full, Initial, initial, braces, Initials, no_initial, initials, Declarators, none_declared, declarator}
 use Rattle.c_tree.specs.Statements.{Statement, block, if_then, if_else, evaluate, return_nothing, return_value, empty, while_loop, do_loop, for_loop, for_declared, switch_on, case_of, default_of, labelled, goto_label, break_off, continue_on, Items, done, declares, does, Externals, no_more, declared, defines}
 use Rattle.c_elab_base.specs.Derivations.{full_line, name_line}
@@ -15,11 +15,15 @@ module _ (P : ℕ → Type 0) where
     InTree (name line n) = P line
     InTree (parens line e) = P line × InTree e
     InTree (unary line op e) = P line × InTree e
+    InTree (address line e) = P line × InTree e
+    InTree (dereference line e) = P line × InTree e
     InTree (cast line parts d e) = P line × InTree e
     InTree (sizeof_expr line e) = P line × InTree e
     InTree (sizeof_type line parts d) = P line
     InTree (step line op e) = P line × InTree e
     InTree (member line e n) = P line × InTree e
+    InTree (arrow line e n) = P line × InTree e
+    InTree (subscript line a b) = P line × InTree a × InTree b
     InTree (binary line op a b) = P line × InTree a × InTree b
     InTree (choice line test a b) = P line × InTree test × InTree a × InTree b
     InTree (assign line op a b) = P line × InTree a × InTree b
