@@ -1,11 +1,12 @@
--- The first store of a file: each object has as many bytes as its size says, and none of the limits is passed.
-use Rattle.std.proofs.Common.{◌≡◌, ◌+◌, ◌-◌, ◌^◌, ◌++◌, ◌/◌, ◌%◌, ◌*◌, ◌<◌, ◌≤◌, ℕ, zero, suc, Bool, true, false, List, [], ◌∷◌, length, map, take, drop, get_or, replicate, Option, Some, None, refl, sym, ap, ◌∙◌, arith}
+-- The first store of a file: its objects are numbered from 1 and are as objects at the start are, and none of the limits is passed.
+use Rattle.std.proofs.Common.{◌≡◌, ◌+◌, ◌-◌, ◌^◌, ◌++◌, ◌/◌, ◌%◌, ◌*◌, ◌<◌, ◌≤◌, ℕ, zero, suc, Bool, true, false, List, [], ◌∷◌, length, map, take, drop, get_or, replicate, Option, Some, None, refl, sym, ap, subst, ◌∙◌, arith}
 use Rattle.std.specs.Prelude.{◌&&◌, nat_lt, nat_le, max, if◌then◌else◌}
 use Rattle.std.specs.Int.{w64, byte_at, bytes_low_first, to_le_bytes}
 use Rattle.std.proofs.lemmas.Nat.{mod_below}
 use Rattle.std.specs.List.{list_all}
 use Rattle.std.proofs.lemmas.List.{length-append, length-replicate, length-drop, length-take-le, drop_more}
 use Rattle.std.proofs.lemmas.List.Elements.{All-nil, All-cons}
+use Rattle.std.specs.Prelude.{All}
 use borrow.Author.Tests.{leb-true}
 use Rattle.core_tree.specs.declared.functions.Address.{Address}
 use Rattle.core_tree.specs.declared.functions.Literal.{Literal}
@@ -22,7 +23,7 @@ use Rattle.actions.specs.StoredObject.{StoredObject}
 use Rattle.c_meaning.specs.Source.{target_number, with_addresses, first_object, literal_object, numbered, first_objects, are_small_objects, are_small_literals, are_storable}
 use Rattle.goto_unwind.specs.Places.{places, objects}
 use Rattle.goto_unwind.specs.Counts.{largest, sizes_of_literals, object_bytes, passed}
-use Rattle.event_forms.specs.Accesses.{HoldsBytes, AreObjects}
+use Rattle.event_forms.specs.Accesses.{HoldsBytes, AreObjects, AreNumbered, IsFirst, AreFirst}
 use Rattle.report.proofs.Both.{and_both}
 
 zero_bytes : (n : ℕ) → are_bytes (replicate n 0) ≡ true
@@ -83,6 +84,9 @@ addressed literals m n size (a ∷ addresses) bytes h long are =
     let room = leb-true (a.at + 8) size there.0 in
     addressed literals m n size addresses (put_at a.at new bytes) parts.1 (put_long a.at new bytes (omega (arith, eight, room, long)) ∙ long) (put_bytes_are a.at new bytes (low_are_bytes 8 (pointer_to (target_number literals a.target) a.offset)) are)
 
+is_less : (n m : ℕ) → nat_lt n m ≡ true → n < m
+is_less n m h = grind (arith, nat_tests)
+
 object_holds : (literals m n : ℕ) (o : Static) → is_static m n o ≡ true → HoldsBytes (first_object literals o)
 object_holds literals m n o h =
     let lies : (Address → Bool) = λ a. nat_le (a.at + 8) o.size && is_target m n a.target in
@@ -93,27 +97,50 @@ object_holds literals m n o h =
     let long = length-append o.bytes (replicate (o.size - length o.bytes) 0) in
     let rest = length-replicate {A = ℕ} (o.size - length o.bytes) 0 in
     let all = addressed literals m n o.size o.addresses (o.bytes ++ replicate (o.size - length o.bytes) 0) addresses.1 (omega (arith, room, long, rest)) (with_zeros o.bytes (o.size - length o.bytes) sized.1) in
-    record { whole = all.0; bytes = all.1 }
+    record { whole = all.0; small = omega (arith, is_less o.size (2 ^ 31) fits.0); bytes = all.1 }
 
-literal_holds : (text : List ℕ) → are_bytes text ≡ true → HoldsBytes (literal_object text)
-literal_holds text h = record { whole = length-append text (0 ∷ []); bytes = bytes_append text (0 ∷ []) h refl }
+literal_holds : (text : List ℕ) → nat_lt (length text) 65536 ≡ true → are_bytes text ≡ true → HoldsBytes (literal_object text)
+literal_holds text short h = record { whole = length-append text (0 ∷ []); small = omega (arith, is_less (length text) 65536 short); bytes = bytes_append text (0 ∷ []) h refl }
 
 abbrev Holds : ℕ × StoredObject → Type 0
 Holds e = HoldsBytes e.1
 
-literals_hold : (literals : List (List ℕ)) (k : ℕ) → list_all are_bytes literals ≡ true → AreObjects (numbered k (map literal_object literals))
-literals_hold [] k h = All-nil Holds
-literals_hold (text ∷ literals) k h =
+literals_hold : (literals : List (List ℕ)) (k : ℕ) → are_small_literals literals ≡ true → list_all are_bytes literals ≡ true → AreObjects (numbered k (map literal_object literals))
+literals_hold [] k short h = All-nil Holds
+literals_hold (text ∷ literals) k short h =
     let parts = and_both (are_bytes text) (list_all are_bytes literals) h in
-    All-cons Holds (k, literal_object text) (numbered (k + 1) (map literal_object literals)) (literal_holds text parts.0) (literals_hold literals (k + 1) parts.1)
+    let few = and_both (nat_lt (length text) 65536) (are_small_literals literals) short in
+    All-cons Holds (k, literal_object text) (numbered (k + 1) (map literal_object literals)) (literal_holds text few.0 parts.0) (literals_hold literals (k + 1) few.1 parts.1)
 
 -- objects, and the literals behind them
-objects_hold : (first m n : ℕ) (objects : List Static) (literals : List (List ℕ)) (k : ℕ) → list_all (is_static m n) objects ≡ true → list_all are_bytes literals ≡ true
+objects_hold : (first m n : ℕ) (objects : List Static) (literals : List (List ℕ)) (k : ℕ) → list_all (is_static m n) objects ≡ true → are_small_literals literals ≡ true → list_all are_bytes literals ≡ true
     → AreObjects (numbered k (map (first_object first) objects ++ map literal_object literals))
-objects_hold first m n [] literals k h texts = literals_hold literals k texts
-objects_hold first m n (o ∷ objects) literals k h texts =
+objects_hold first m n [] literals k h short texts = literals_hold literals k short texts
+objects_hold first m n (o ∷ objects) literals k h short texts =
     let parts = and_both (is_static m n o) (list_all (is_static m n) objects) h in
-    All-cons Holds (k, first_object first o) (numbered (k + 1) (map (first_object first) objects ++ map literal_object literals)) (object_holds first m n o parts.0) (objects_hold first m n objects literals (k + 1) parts.1 texts)
+    All-cons Holds (k, first_object first o) (numbered (k + 1) (map (first_object first) objects ++ map literal_object literals)) (object_holds first m n o parts.0) (objects_hold first m n objects literals (k + 1) parts.1 short texts)
+
+-- ---- their numbers, and what they are
+
+numbers_are : (objects : List StoredObject) (k : ℕ) → AreNumbered k (numbered k objects)
+numbers_are [] k = tt
+numbers_are (o ∷ objects) k = (refl, subst (λ (n : ℕ). AreNumbered n (numbered (k + 1) objects)) (next k) (numbers_are objects (k + 1)))
+  where
+    next : (k : ℕ) → k + 1 ≡ suc k
+    next k = omega arith
+
+abbrev First : ℕ × StoredObject → Type 0
+First e = IsFirst e.1
+
+literals_first : (literals : List (List ℕ)) (k : ℕ) → All First (numbered k (map literal_object literals))
+literals_first [] k = All-nil First
+literals_first (text ∷ literals) k =
+    All-cons First (k, literal_object text) (numbered (k + 1) (map literal_object literals)) (record { lives = refl; cells_are = refl; heap_is = refl }) (literals_first literals (k + 1))
+
+objects_first : (first : ℕ) (objects : List Static) (literals : List (List ℕ)) (k : ℕ) → All First (numbered k (map (first_object first) objects ++ map literal_object literals))
+objects_first first [] literals k = literals_first literals k
+objects_first first (o ∷ objects) literals k =
+    All-cons First (k, first_object first o) (numbered (k + 1) (map (first_object first) objects ++ map literal_object literals)) (record { lives = refl; cells_are = refl; heap_is = refl }) (objects_first first objects literals (k + 1))
 
 -- one literal more, the last ones first
 pub text_more : (ls : List Literal) (n : ℕ) (l : Literal) → n < length ls → l ≡ get_or ls n l → are_bytes l.bytes.items ≡ true
@@ -123,9 +150,15 @@ text_more ls n l within found here others =
     ∙ ap (λ (k : Literal). are_bytes k.bytes.items && list_all are_bytes (view_literals (drop (n + 1) ls))) (sym found)
     ∙ (λ i. here i && others i)
 
-pub file_holds : (core : TypedFile) → are_typed core ≡ true → list_all are_bytes core.literals ≡ true → AreObjects (first_objects core)
-file_holds core h texts =
-    objects_hold (length core.objects + 1) (length core.objects) (length core.literals) core.objects core.literals 1 (and_both (are_static core) (list_all (is_typed_function core) core.functions) h).0 texts
+pub file_first : (core : TypedFile) → are_typed core ≡ true → list_all are_bytes core.literals ≡ true → are_storable core ≡ true → AreFirst (first_objects core)
+file_first core h texts room =
+    let static = (and_both (are_static core) (list_all (is_typed_function core) core.functions) h).0 in
+    let short = (and_both (nat_le (length core.objects + length core.literals) 8192 && are_small_objects core.objects) (are_small_literals core.literals) room).1 in
+    record {
+      hold = objects_hold (length core.objects + 1) (length core.objects) (length core.literals) core.objects core.literals 1 static short texts;
+      numbers = numbers_are (map (first_object (length core.objects + 1)) core.objects ++ map literal_object core.literals) 1;
+      first = objects_first (length core.objects + 1) core.objects core.literals 1;
+    }
 
 -- ---- where no count passes its limit they can be stored
 

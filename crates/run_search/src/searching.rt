@@ -7,14 +7,14 @@ ghost use Rattle.actions.specs.Behaviour.{Thread};
 ghost use Rattle.word_dag.specs.Meaning.{width};
 ghost use Rattle.word_dag.specs.Growth.{Within};
 ghost use Rattle.core_tree.specs.Trees.{view_literals, view_core};
-ghost use Rattle.c_meaning.specs.Source.{source_thread, first_objects};
+ghost use Rattle.c_meaning.specs.Source.{source_thread, first_objects, are_storable};
 ghost use Rattle.interleave.specs.World.{first_world};
 ghost use Rattle.goto_prog.specs.Flat.{main_code, plain_thread};
 ghost use Rattle.goto_prog.specs.Static.{is_static_code};
 ghost use Rattle.goto_unwind.specs.Counts.{passed};
 ghost use Rattle.goto_unwind.specs.LocalRuns.{MakesFew};
 ghost use Rattle.event_forms.specs.Forms.{IsForm, AreStatic};
-ghost use Rattle.event_forms.specs.Accesses.{AreObjects};
+ghost use Rattle.event_forms.specs.Accesses.{AreFirst};
 ghost use Rattle.event_forms.specs.Goals.{IsGoal};
 ghost use Rattle.event_forms.specs.Formulas.{told_by, IsFormula, FormulaIn};
 ghost use Rattle.run_search.specs.Stops.{StopsWith, IsPassed};
@@ -65,9 +65,9 @@ pub enum Searched {
     Budget(Used),
 }
 
-// Each object of a file has as many first bytes as its size says.
+// The objects of a file that can be stored are as those of a program's start are.
 fn prove_objects(file: &Admitted)
-    ensures { AreObjects (first_objects (view_core file.now)) }
+    ensures { are_storable (view_core file.now) ≡ true → AreFirst (first_objects (view_core file.now)) }
 {
     let core = file.core();
     let _objects = core.objects();
@@ -96,7 +96,7 @@ fn unrolled_code(alloc: Global, file: &Admitted, bounds: &Bounds) -> Result<Unro
     ensures counts { IfOk result (λ u. passed (view_core file.now) bounds.now ≡ None) }
     ensures same { IfOk result (λ u. (plain_thread u).behaves ≡ (source_thread (view_core file.now) bounds.now).behaves) }
     ensures store { IfOk result (λ u. u.store ≡ first_objects (view_core file.now)) }
-    ensures objects { IfOk result (λ u. AreObjects u.store) }
+    ensures objects { IfOk result (λ u. AreFirst u.store) }
     ensures plain { IfOk result (λ u. is_static_code (main_code u).instructions ≡ true) }
     ensures few { IfOk result (λ u. MakesFew (length u.store) (plain_thread u)) }
     ensures stop { IfErr result (λ s. StopsWith s (IsPassed bounds.now (view_core file.now))) }
@@ -124,8 +124,8 @@ fn formula_of(alloc: Global, dag: &mut Dag, unrolled: &Unrolled) -> Result<Formu
     ensures within { IfOk result (λ f. FormulaIn dag.new f) }
     ensures plain { IfOk result (λ f. AreStatic dag.new f.form.events) }
     ensures form { IfOk result (λ f. (t : Thread) → (plain_thread unrolled.now).behaves ≡ t.behaves → IsForm t.behaves dag.new f.form.events) }
-    ensures formula { IfOk result (λ f. (t : Thread) → AreObjects unrolled.now.store → (plain_thread unrolled.now).behaves ≡ t.behaves → IsFormula (first_world t unrolled.now.store) dag.new f) }
-    ensures runs { IfOk result (λ f. (t : Thread) → AreObjects unrolled.now.store → (plain_thread unrolled.now).behaves ≡ t.behaves → IsGoal (first_world t unrolled.now.store) dag.new f.goal (told_by dag.new f.form)) }
+    ensures formula { IfOk result (λ f. (t : Thread) → AreFirst unrolled.now.store → (plain_thread unrolled.now).behaves ≡ t.behaves → IsFormula (first_world t unrolled.now.store) dag.new f) }
+    ensures runs { IfOk result (λ f. (t : Thread) → AreFirst unrolled.now.store → (plain_thread unrolled.now).behaves ≡ t.behaves → IsGoal (first_world t unrolled.now.store) dag.new f.goal (told_by dag.new f.form)) }
 {
     let forms = threads(alloc, unrolled, dag)?;
     sequential(alloc, dag, &forms[0], &Sets {})

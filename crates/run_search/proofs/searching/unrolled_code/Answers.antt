@@ -1,7 +1,7 @@
 use Rattle.std.proofs.Common.{◌≡◌, ◌≤◌, true, sym, ◌∙◌, subst, arith}
 use Rattle.core_tree.specs.Ranges.{is_unwinding}
 use Rattle.core_tree.specs.Trees.{view_core}
-use Rattle.event_forms.specs.Accesses.{AreObjects}
+use Rattle.event_forms.specs.Accesses.{AreFirst}
 use Rattle.run_search.proofs.CountedObjects.{is_bound, no_more}
 use Rattle.run_search.proofs.FirstStores.{storable}
 use Rattle.run_search.proofs.StartsNone.{none_start}
@@ -20,9 +20,8 @@ returns-in-Ok-clause-store c =
 
 pub returns-in-Ok-clause-objects : goal.returns-in-Ok-clause-objects
 returns-in-Ok-clause-objects c =
-    subst AreObjects
-    (sym (c.in-Ok.ensures.store ∙ c.in_ok-checked.ensures.store ∙ c.in_ok-lowered.ensures.store (storable (view_core c.args.file.now) c.args.bounds.now c.in-Ok.ensures.within)))
-    c.prove_objects.ensures
+    let room = storable (view_core c.args.file.now) c.args.bounds.now c.in-Ok.ensures.within in
+    subst AreFirst (sym (c.in-Ok.ensures.store ∙ c.in_ok-checked.ensures.store ∙ c.in_ok-lowered.ensures.store room)) (c.prove_objects.ensures room)
 
 pub returns-in-Ok-clause-few : goal.returns-in-Ok-clause-few
 returns-in-Ok-clause-few c =
