@@ -20,7 +20,11 @@ fn is_name_alone(declarator: &FullDeclarator) -> bool
 {
     match declarator {
         FullDeclarator::Unnamed { .. } => false,
-        FullDeclarator::Named { pointers, suffixes, .. } => is_bare(pointers, suffixes),
+        FullDeclarator::Named {
+            pointers,
+            suffixes,
+            ..
+        } => is_bare(pointers, suffixes),
         FullDeclarator::Inside {
             pointers,
             inner,
@@ -60,7 +64,11 @@ pub fn own_suffix(declarator: &FullDeclarator) -> Option<&DeclaratorSuffix>
 {
     match declarator {
         FullDeclarator::Unnamed { .. } => None,
-        FullDeclarator::Named { pointers, suffixes, .. } => {
+        FullDeclarator::Named {
+            pointers,
+            suffixes,
+            ..
+        } => {
             if pointers.is_empty() {
                 one_function(suffixes)
             } else {

@@ -9,9 +9,9 @@ ghost use Rattle.guarded_ssa.specs.inner.Places.{told};
 ghost use Rattle.event_forms.specs.Forms.{FormIn, AreForms, AreStatic, AreStaticForms, seen};
 
 use crate::answers::variables_of;
-use event_forms::{Event, ThreadForm};
 use crate::liveness::Plan;
 use crate::pass::Pass;
+use event_forms::{Event, ThreadForm};
 use goto_prog::{Code, Unrolled};
 use std::alloc::{AllocError, Global};
 use word_dag::Dag;

@@ -46,7 +46,6 @@ ghost use Rattle.guarded_ssa.specs.inner.Held.{SlotIn, PassIn, Arrives, Tells, V
 ghost use Rattle.guarded_ssa.specs.inner.Conditions.{Reached, PassesHere};
 
 use crate::answers::{answer_words, bytes_of_words};
-use event_forms::{Event, EventKind, Nodes};
 use crate::liveness::Plan;
 use crate::parts::at_most;
 use crate::slots::Slot;
@@ -54,6 +53,7 @@ use crate::values::class_of;
 use c_types::IntegerType;
 use c_values::pointer_to;
 use cell_trees::Trees;
+use event_forms::{Event, EventKind, Nodes};
 use goto_prog::{Condition, Instruction, Operation};
 use std::alloc::{AllocError, Global};
 use std::collections::VecDeque;
