@@ -1,4 +1,4 @@
-pub mod States
-pub mod Walks
+pub mod Objects
 pub mod NodeWords
 pub mod Replayed
+pub mod Walks

@@ -2,5 +2,7 @@
 #![tactic(auto)]
 
 mod building;
+mod values;
+mod walking;
 
 pub use building::build;
