@@ -1,0 +1,4 @@
+pub mod Readings
+pub mod Placed
+pub mod Ranks
+pub mod Reached
