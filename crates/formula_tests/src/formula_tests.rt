@@ -6,18 +6,18 @@ ghost use Rattle.std.specs.Prelude.{IsTrue};
 ghost use Rattle.value_nodes.specs.Values.{IsWord, AreBytes};
 ghost use Rattle.event_forms.specs.Forms.{IsBit, AreWords, EventIn, FormIn, IsFixed, IsStaticKind, AreStatic};
 
+use crate::set_tests::no_sets;
 use actions::{Bytes, Cells, Object, Store};
 use c_values::pointer_to;
 use event_forms::{Event, EventKind, Nodes, ThreadForm};
 use mem_seq::sequential;
-use points_to::Sets;
 use std::alloc::{AllocError, Global};
 use std::test::*;
 use word_dag::{Comparison, Dag, Id, Node, Valuation};
 use words::Class;
 
-// One object, of 10 bytes.
-fn store(alloc: Global, readonly: bool) -> Result<Store, AllocError> {
+/// One object, of 10 bytes.
+pub fn store(alloc: Global, readonly: bool) -> Result<Store, AllocError> {
     let bytes = Vec::from_slice(alloc, &[5, 0, 0, 0, 1, 2, 3, 4, 6, 7])?;
     let object = Object {
         size: 10,
@@ -345,7 +345,7 @@ fn goal(alloc: Global, number: usize, values: [u64; 6]) -> Result<u64, AllocErro
         return Err(AllocError);
     }
     let form = ThreadForm::new(events, store(alloc, number == 6)?);
-    let formula = sequential(alloc, &mut dag, &form, &Sets {})?;
+    let formula = sequential(alloc, &mut dag, &form, &no_sets(alloc)?)?;
     let valuation = Valuation::from_values(Vec::from_slice(alloc, &values)?);
     Ok(dag.value(alloc, &valuation, formula.goal)?.bits())
 }

@@ -42,8 +42,15 @@ impl Sets {
         }
         Ok(Sets {
             pointers: pointer_count(code),
-            objects: places(alloc, stored + made)?,
+            objects: numbers_below(alloc, stored + made)?,
         })
+    }
+
+    /// How many pointer places there are. Takes no memory.
+    pub fn places(&self) -> usize
+        ensures { result ≡ length self.now }
+    {
+        self.pointers
     }
 
     /// The object places that the pointer of a pointer place may point to. Pointer places have the numbers from 0 on, in the
@@ -105,8 +112,8 @@ fn allocation_count(code: &[Instruction]) -> usize
     count
 }
 
-// The object places below a number, which is at most 2 ^ 32.
-fn places(alloc: Global, count: u64) -> Result<Vec<u32>, AllocError>
+// The numbers below one, which is at most 2 ^ 32.
+fn numbers_below(alloc: Global, count: u64) -> Result<Vec<u32>, AllocError>
     requires small { count ≤ 2 ^ 32 }
     ensures { IfOk result (λ r. (k : ℕ) → k < count → has_member r.items k ≡ true) }
 {

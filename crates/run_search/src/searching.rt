@@ -128,7 +128,8 @@ fn formula_of(alloc: Global, dag: &mut Dag, unrolled: &Unrolled) -> Result<Formu
     ensures runs { IfOk result (λ f. (t : Thread) → AreFirst unrolled.now.store → (plain_thread unrolled.now).behaves ≡ t.behaves → IsGoal (first_world t unrolled.now.store) dag.new f.goal (told_by dag.new f.form)) }
 {
     let forms = threads(alloc, unrolled, dag)?;
-    sequential(alloc, dag, &forms[0], &Sets {})
+    let sets = Sets::of(alloc, unrolled)?;
+    sequential(alloc, dag, &forms[0], &sets)
 }
 
 /// Values of the variables that make a goal true, if there are any. A refutation counts only once its checker accepted it,

@@ -15,8 +15,8 @@ returns-clause-sets c =
     let made : c.allocation_count-made.result ≡ code_allocations (instructions_of u) = c.allocation_count-made.ensures ∙ ap code_allocations code in
     let pointers : c.pointer_count.result ≡ pointers_in (instructions_of u) = c.pointer_count.ensures ∙ ap pointers_in code in
     let stored : c.len-stored.result ≡ length u.store = c.len-stored.ensures ∙ ap (λ (objects : Objects). length objects) c.store.ensures in
-    let all : List ℕ = c.in_ok-places.field-0.items in
+    let all : List ℕ = c.in_ok-numbers_below.field-0.items in
     all_places u (members_of (replicate c.pointer_count.result all))
     (λ place k there below.
     let lies : k < c.len-stored.result + c.allocation_count-made.result = omega (arith, below, stored, made) in
-    ap (λ (members : List ℕ). has_member members k) (same_members c.pointer_count.result place all (subst (λ (n : ℕ). place < n) (sym pointers) there)) ∙ c.in_ok-places.ensures k lies)
+    ap (λ (members : List ℕ). has_member members k) (same_members c.pointer_count.result place all (subst (λ (n : ℕ). place < n) (sym pointers) there)) ∙ c.in_ok-numbers_below.ensures k lies)
