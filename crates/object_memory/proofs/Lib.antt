@@ -1,0 +1,7 @@
+mod Spotted
+mod Pointed
+mod Broken
+mod ReadWords
+mod Puts
+mod Starts
+mod Stood
